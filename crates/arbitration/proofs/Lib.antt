@@ -1,0 +1,13 @@
+pub mod Changing
+pub mod Finding
+pub mod Winning
+pub mod Settling
+pub mod States
+pub mod Rosters
+pub mod Keeping
+pub mod Calls
+pub mod Setup
+pub mod Firsts
+pub mod Potential
+pub mod Grants
+pub mod Patience

@@ -1,0 +1,9 @@
+pub mod Lists
+pub mod Contenders
+pub mod Numbers
+pub mod Rules
+pub mod Sound
+pub mod View
+pub mod Scans
+pub mod Winning
+pub mod Waiting

@@ -1,0 +1,5 @@
+pub mod Words
+pub mod Scripts
+pub mod Listing
+pub mod Runs
+pub mod View
