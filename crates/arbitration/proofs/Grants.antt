@@ -1,10 +1,10 @@
 -- The level that an arbitration answers is that of a contender that asks.
-use Rattle.std.proofs.Common.{◌≡◌, ℕ, ◌+◌, ◌≤◌, Bool, true, false, cond, not, ◌&&◌, ◌||◌, eqb, List, [], ◌∷◌, is_ok, Some, None, Option, sym, refl, ap, ◌∙◌, arith}
+use Rattle.std.proofs.Common.{◌≡◌, ℕ, ◌+◌, ◌≤◌, Bool, true, false, cond, not, ◌&&◌, ◌||◌, eqb, List, [], ◌∷◌, Some, None, Option, sym, refl, ap, ◌∙◌, arith}
 use Rattle.std.proofs.lemmas.Bool.{cond_both, and_parts, not-true, or_left, or_right, eq-eqb, eqb-true, both_ways}
 use Rattle.arbitration.specs.declared.contenders.Contender.{Contender}
 use Rattle.arbitration.specs.Lists.{any, first, holds}
 use Rattle.arbitration.specs.Contenders.{at_level, asks, assured, prioritised, outranks}
-use Rattle.arbitration.specs.Rules.{foremost, winner, asks_as, by_winner}
+use Rattle.arbitration.specs.Rules.{foremost, winner, asks_as}
 use Rattle.arbitration.specs.Sound.{levels, distinct}
 use Rattle.arbitration.specs.Waiting.{other, rival}
 use Rattle.arbitration.proofs.Changing.{one_if}

@@ -1,5 +1,7 @@
 //! The ownership of one FASTBUS segment: who owns it, who asks for it, who waits, and the arbitration request inhibit.
 //! It knows nothing of cycles, modules or files.
+#![tactic(auto)]
+
 mod bus;
 mod contenders;
 mod replies;

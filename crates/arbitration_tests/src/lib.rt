@@ -1,5 +1,7 @@
 //! Tests of the crate `arbitration` through its public calls.
 
+#![tactic(auto)]
+
 #[cfg(test)]
 mod tests {
     use arbitration::*;

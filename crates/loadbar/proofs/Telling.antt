@@ -1,5 +1,5 @@
 -- From the contracts of the segment to the lines that are printed.
-use Rattle.std.proofs.Common.{◌≡◌, ℕ, true, false, is_ok, IfOk, Ok, Err, Result, sym, ap}
+use Rattle.std.proofs.Common.{◌≡◌, ℕ, is_ok, IfOk, Ok, Err, Result, sym, ap}
 use Rattle.std.proofs.lemmas.Bool.{true≢false}
 use Rattle.arbitration.specs.declared.replies.Answer.{Answer}
 use Rattle.arbitration.specs.declared.replies.Refusal.{Refusal}

@@ -1,5 +1,5 @@
 -- The lines that the program prints, byte by byte.
-use Rattle.std.specs.Prelude.{ℕ, ◌+◌, ◌-◌, Bool, true, false, cond, List, [], ◌∷◌, ◌++◌, length, replicate, Some, None, Ok, Err, codes, decimal, Option, Result}
+use Rattle.std.specs.Prelude.{ℕ, ◌-◌, Bool, true, false, cond, List, [], ◌∷◌, ◌++◌, length, replicate, Some, None, Ok, Err, codes, decimal, Option, Result}
 use Rattle.std.specs.List.{flat_map}
 use Rattle.arbitration.specs.declared.contenders.Contender.{Contender}
 use Rattle.arbitration.specs.declared.contenders.State.{State}

@@ -1,4 +1,6 @@
 //! Shows the load of one segment: reads a script of calls from standard input, and prints for each call its answer and a load bar.
+#![tactic(auto)]
+
 mod listing;
 mod runs;
 mod scripts;

@@ -17,7 +17,7 @@ use Rattle.model.specs.Crates.{Crate, bus_at, operation_at, happens, set_operati
 use Rattle.model.specs.Outcomes.{Outcome}
 use Rattle.model.specs.Ways.{dropped, dropped_if_any}
 use Rattle.model.specs.Addresses.{Request, request, linked, busy, arrived, grant, grants_at, is_lost, note_loss, wishing, contested, hop, travelled, addressed}
-use Rattle.model.specs.Cycles.{pointer, data_cycle}
+use Rattle.model.specs.Cycles.{data_cycle}
 use Rattle.model.specs.Calls.{granting, no_flags, step}
 use Rattle.model.specs.Runs.{levels_on}
 use Rattle.model.proofs.Basics.{by_eq}

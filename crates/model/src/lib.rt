@@ -1,6 +1,8 @@
 //! A crate of FASTBUS segments, whole: what its eight calls do, and what holds of every run of them.
 //! The rules stand as definitions in specs/. Here are the types that the definitions share with running code,
 //! and a function for each statement that is proved of the definitions.
+#![tactic(auto)]
+
 mod calls;
 mod cells;
 mod laws;

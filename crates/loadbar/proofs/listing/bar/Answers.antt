@@ -11,7 +11,7 @@ returns c =
     let asking = ap (λ (l : Load). l.asking) c.load-load.ensures in
     let waiting = ap (λ (l : Load). l.waiting) c.load-load.ensures in
     let all = ap length c.contenders-contenders.ensures in
-    let idle : c.saturating-sub-idle.result ≡ idlers (bus c.args.segment.now) = c.saturating-sub-idle.ensures ∙ (λ j. (c.saturating-sub-2.ensures ∙ (λ k. (c.saturating-sub.ensures ∙ (λ i. all i - owning i)) k - asking k)) j - waiting j) in
-    runs_between (codes "]") 35 61 45 46 c.in-ok-text.ensures.ok c.in-ok-push-marks.ensures c.in-ok-push-marks-2.ensures c.in-ok-push-marks-3.ensures c.in-ok-push-marks-4.ensures
-    (c.in-ok-push.ensures.bytes ∙ ap (λ e. string_bytes c.push-marks-4.new.text ++ e) (c.push.ensures.ascii (omega arith)))
+    let idle : c.saturating_sub-idle.result ≡ idlers (bus c.args.segment.now) = c.saturating_sub-idle.ensures ∙ (λ j. (c.saturating_sub-2.ensures ∙ (λ k. (c.saturating_sub.ensures ∙ (λ i. all i - owning i)) k - asking k)) j - waiting j) in
+    runs_between (codes "]") 35 61 45 46 c.in_ok-text.ensures.ok c.in_ok-push_marks.ensures c.in_ok-push_marks-2.ensures c.in_ok-push_marks-3.ensures c.in_ok-push_marks-4.ensures
+    (c.in_ok-push.ensures.bytes ∙ ap (λ e. string_bytes c.push_marks-4.new.text ++ e) (c.push.ensures.ascii (omega arith)))
     owning asking waiting idle

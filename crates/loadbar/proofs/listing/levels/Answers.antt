@@ -7,11 +7,11 @@ use Rattle.loadbar.proofs.listing.levels.Goals as goal
 
 pub loop-c-preserved : goal.loop-c-preserved
 loop-c-preserved c =
-    let one = c.in-ok-one.ensures in
+    let one = c.in_ok-one.ensures in
     let more = joined_on (level_text c.args.state) c.args.contenders.now c.loop-c.c-index no_contender (omega arith) in
     let was = c.loop-c.invariant in
-    let text = c.as-str.ensures.value in
-    let put = c.in-ok-push-str.ensures.bytes in
+    let text = c.as_str.ensures.value in
+    let put = c.in_ok-push_str.ensures.bytes in
     cc
 
 pub returns : goal.returns

@@ -9,15 +9,15 @@ use Rattle.loadbar.proofs.runs.run_script.Goals as goal
 pub loop-rest-smaller : goal.loop-rest-smaller
 loop-rest-smaller c =
     let some : 0 < length c.loop-rest.rest.now = omega (arith, eqb-false _ 0 (sym c.loop-rest-test.ensures)) in
-    omega (arith, following_shorter c.loop-rest.rest.now some, ap length c.split-line.ensures.following)
+    omega (arith, following_shorter c.loop-rest.rest.now some, ap length c.split_line.ensures.following)
 
 pub loop-rest-preserved : goal.loop-rest-preserved
 loop-rest-preserved c =
     let some : 0 < length c.loop-rest.rest.now = omega (arith, eqb-false _ 0 (sym c.loop-rest-test.ensures)) in
-    let text = c.as-str.ensures.value ∙ c.in-ok-printed.ensures.text ∙ ap (λ l. printed l (progress c.loop-rest.run)) c.split-line.ensures.line in
-    let after = c.in-ok-printed.ensures.after ∙ ap (λ l. taken_in l (progress c.loop-rest.run)) c.split-line.ensures.line in
-    (λ j. c.in-ok-push-str.ensures.bytes j ++ report (lines_of (c.split-line.ensures.following j)) (progress c.take-in.new.self))
-    ∙ report_on c.loop-rest.rest.now (progress c.loop-rest.run) (progress c.take-in.new.self) _ (string_bytes c.loop-rest.text) c.as-str.result.now some c.loop-rest.invariant text after
+    let text = c.as_str.ensures.value ∙ c.in_ok-printed.ensures.text ∙ ap (λ l. printed l (progress c.loop-rest.run)) c.split_line.ensures.line in
+    let after = c.in_ok-printed.ensures.after ∙ ap (λ l. taken_in l (progress c.loop-rest.run)) c.split_line.ensures.line in
+    (λ j. c.in_ok-push_str.ensures.bytes j ++ report (lines_of (c.split_line.ensures.following j)) (progress c.take_in.new.self))
+    ∙ report_on c.loop-rest.rest.now (progress c.loop-rest.run) (progress c.take_in.new.self) _ (string_bytes c.loop-rest.text) c.as_str.result.now some c.loop-rest.invariant text after
 
 pub returns : goal.returns
 returns c =

@@ -18,22 +18,22 @@ returns-in-Some c =
     let told = owned_told c.args.self.now.number c.args.self.now.inhibit c.deref.ensures.value c.in-Some.ensures in
     record { answer = sym (ap (at_segment c.args.self.now.number) told); after = arbitration_stays _ 22 told; answered_if_free_and_asked = answered_if_free_and_asked (bus c.args.self.now); highest_asker_wins = highest_asker_wins (bus c.args.self.now) }
 
-pub returns-in-default-place-of-winner : goal.returns-in-default-place-of-winner
-returns-in-default-place-of-winner c = record { answer = search rules; after = search rules; answered_if_free_and_asked = answered_if_free_and_asked (bus c.args.self.now); highest_asker_wins = highest_asker_wins (bus c.args.self.now) }
+pub returns-in_default-place_of_winner : goal.returns-in_default-place_of_winner
+returns-in_default-place_of_winner c = record { answer = search rules; after = search rules; answered_if_free_and_asked = answered_if_free_and_asked (bus c.args.self.now); highest_asker_wins = highest_asker_wins (bus c.args.self.now) }
 
 -- the grant, and settling after it
-made : (c : After-settle-self) → bus_of c.args.self.now.number (vec_items (with_items (with_item c.args.self.now.contenders c.in-Some-place-of-winner.i (put Owns c.index-mut-winner.result.now)) c.settle-self.new.contenders)) c.settle-self.result ≡ after Arbitrate (bus c.args.self.now)
+made : (c : After-settle-self) → bus_of c.args.self.now.number (vec_items (with_items (with_item c.args.self.now.contenders c.in-Some-place_of_winner.i (put Owns c.index_mut-winner.result.now)) c.settle-self.new.contenders)) c.settle-self.result ≡ after Arbitrate (bus c.args.self.now)
 made c =
-    settles c.args.self.now.number (with_item c.args.self.now.contenders c.in-Some-place-of-winner.i (put Owns c.index-mut-winner.result.now)) true c.deref-mut.ensures.value c.deref-mut.ensures.len c.settle-self.ensures.answer c.settle-self.ensures.after
-    ∙ grant_made c.args.self.now.number c.args.self.now.inhibit c.deref-2.ensures.value c.index-mut-winner.ensures.value c.in-Some-place-of-winner.ensures (ap (any owns) (sym c.deref.ensures.value) ∙ c.in-default.ensures)
+    settles c.args.self.now.number (with_item c.args.self.now.contenders c.in-Some-place_of_winner.i (put Owns c.index_mut-winner.result.now)) true c.deref_mut.ensures.value c.deref_mut.ensures.len c.settle-self.ensures.answer c.settle-self.ensures.after
+    ∙ grant_made c.args.self.now.number c.args.self.now.inhibit c.deref-2.ensures.value c.index_mut-winner.ensures.value c.in-Some-place_of_winner.ensures (ap (any owns) (sym c.deref.ensures.value) ∙ c.in_default.ensures)
 
-pub invariant-of-self : goal.invariant-of-self
-invariant-of-self c = (subst SoundBus (sym (made (goal.at.invariant-of-self c).After-settle-self)) (sound_arbitration _ c.args.self.now.sound), tt)
+pub invariant_of-self : goal.invariant_of-self
+invariant_of-self c = record { sound = subst SoundBus (sym (made (goal.at.invariant_of-self c).After-settle-self)) (sound_arbitration _ c.args.self.now.sound) }
 
 pub returns : goal.returns
 returns c =
-    let free = ap (any owns) (sym c.deref.ensures.value) ∙ c.in-default.ensures in
-    let told = grant_told c.args.self.now.number c.args.self.now.inhibit c.deref-2.ensures.value c.index-mut-winner.ensures.value c.in-Some-place-of-winner.ensures free in
+    let free = ap (any owns) (sym c.deref.ensures.value) ∙ c.in_default.ensures in
+    let told = grant_told c.args.self.now.number c.args.self.now.inhibit c.deref-2.ensures.value c.index_mut-winner.ensures.value c.in-Some-place_of_winner.ensures free in
     record {
       answer = sym (ap (at_segment c.args.self.now.number) told);
       after = made (goal.at.returns c).After-settle-self;

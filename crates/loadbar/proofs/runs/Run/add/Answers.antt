@@ -7,7 +7,7 @@ use Rattle.loadbar.proofs.runs.Run.add.Goals as goal
 
 pub returns-in-Refused : goal.returns-in-Refused
 returns-in-Refused c =
-    let added = subst (λ f. Added c.args.level c.args.access (bus c.args.self.now.segment) (Err f) (bus c.add-contender.new.self)) c.in-Refused.is c.in-Err.ensures in
+    let added = subst (λ f. Added c.args.level c.args.access (bus c.args.self.now.segment) (Err f) (bus c.add_contender.new.self)) c.in-Refused.is c.in-Err.ensures in
     let why = added.0 ∙ ap Some (sym c.number.ensures) in
     record {
       text = IfOk-weaker c.refused_line.result _ _ (λ s e. e ∙ ap (λ o. if_refused o c.args.self.now.lines) (sym why)) c.refused_line.ensures;

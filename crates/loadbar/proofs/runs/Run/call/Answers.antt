@@ -8,10 +8,10 @@ use Rattle.loadbar.proofs.runs.Run.call.Goals as goal
 
 pub returns : goal.returns
 returns c =
-    let number = c.saturating-add-self.ensures in
+    let number = c.saturating_add-self.ensures in
     let after = c.apply-answer.ensures.after in
     let told = plain_of c.args.self.now.segment.number c.apply-answer.result (answer c.args.event (bus c.args.self.now.segment)) c.apply-answer.ensures.answer in
     record {
-      text = IfOk-weaker c.call-line.result _ _ (λ s e. e ∙ (λ j. call_line (number j) (told j) (after j))) c.call-line.ensures;
+      text = IfOk-weaker c.call_line.result _ _ (λ s e. e ∙ (λ j. call_line (number j) (told j) (after j))) c.call_line.ensures;
       after = λ j. record { segment = after j; lines = c.args.self.now.lines; calls = number j };
     }
