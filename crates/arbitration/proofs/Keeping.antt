@@ -2,7 +2,7 @@
 use Rattle.std.proofs.Common.{◌≡◌, ℕ, ◌<◌, ◌≤◌, Bool, true, false, cond, not, ◌&&◌, eqb, List, [], ◌∷◌, ◌++◌, map, length, is_ok, Some, None, Err, refl, ap, ◌∙◌, subst, arith}
 use lib.ListN.{length-map}
 use Rattle.std.proofs.lemmas.List.{length_push, map_push}
-use Rattle.std.proofs.lemmas.Bool.{or_parts, and_parts, and_from, not-true}
+use Rattle.std.proofs.lemmas.Bool.{or_parts, and_parts, and_from, not-true, true≢false}
 use Rattle.arbitration.specs.declared.contenders.Access.{Access}
 use Rattle.arbitration.specs.declared.contenders.State.TheVariants.{Idle, Waits, Owns}
 use Rattle.arbitration.specs.declared.contenders.Move.{Move}
@@ -10,11 +10,12 @@ use Rattle.arbitration.specs.declared.contenders.Move.TheVariants as move
 use Rattle.arbitration.specs.declared.contenders.Contender.{Contender}
 use Rattle.arbitration.specs.declared.replies.Event.{Event}
 use Rattle.arbitration.specs.declared.replies.Event.TheVariants.{Wish, Withdraw, Arbitrate, Release}
-use Rattle.arbitration.specs.Lists.{any, every, count}
+use Rattle.std.specs.List.{list_any, list_all}
+use Rattle.arbitration.specs.Lists.{count}
 use Rattle.arbitration.specs.Contenders.{same_state, at_level, asks, waits, owns, put, moved, wake}
 use Rattle.arbitration.specs.Rules.{Bus, in_range, newcomer, lifts, settled, made, winner, asks_as, granted, arbitrated, by_winner, move_answer, after_move, after}
 use Rattle.arbitration.specs.Sound.{levels, distinct, calm, Sound}
-use Rattle.arbitration.proofs.Changing.{absurdly, every_map, count_map, any_amended_none, count_amended_le, count_amended_more, count_none, any_map_none, any_push, every_push, count_push}
+use Rattle.arbitration.proofs.Changing.{all_map, count_map, any_amended_none, count_amended_le, count_amended_more, count_none, any_map_none, any_push, all_push, count_push}
 use Rattle.arbitration.proofs.States.{never_owns, never_waits, passes_less, still_fails, woken_owns, woken_waits}
 use Rattle.arbitration.proofs.Rosters.{roster, roster_settled, roster_made, roster_granted, by_roster}
 
@@ -36,13 +37,13 @@ sound_by_roster : (cs ds : List Contender) (before after : Bool) → roster ds �
 sound_by_roster cs ds before after e h one quiet = (
   omega (arith, by_roster length (λ xs. length-map xs (put Idle)) ds cs e, h.0),
   ap distinct (same_levels ds cs e) ∙ h.1,
-  by_roster (every ranged) (every_map ranged (put Idle) (λ c. refl)) ds cs e ∙ h.2,
+  by_roster (list_all ranged) (all_map ranged (put Idle) (λ c. refl)) ds cs e ∙ h.2,
   one,
   quiet,
 )
 
 -- ---- settling
-settles_calm : (cs : List Contender) (up some : Bool) → any asks cs ≡ some → (up ≡ false → any waits cs ≡ false) → calm (cond (up && not some) (map wake cs) cs) (up && some) ≡ true
+settles_calm : (cs : List Contender) (up some : Bool) → list_any asks cs ≡ some → (up ≡ false → list_any waits cs ≡ false) → calm (cond (up && not some) (map wake cs) cs) (up && some) ≡ true
 settles_calm cs false some e h = ap not (h refl)
 settles_calm cs true true e h = e
 settles_calm cs true false e h = ap not (any_map_none waits wake (λ c. woken_waits c.state) cs)
@@ -50,14 +51,14 @@ settles_calm cs true false e h = ap not (any_map_none waits wake (λ c. woken_wa
 owns_settled : (b : Bus) → count owns (settled b).contenders ≡ count owns b.contenders
 owns_settled b = elim (lifts b) as (λ t. count owns (cond t (map wake b.contenders) b.contenders) ≡ count owns b.contenders) [ true ↦ count_map owns wake (λ c. woken_owns c.state) b.contenders | false ↦ refl ]
 
-sound_settled : (cs : List Contender) (before : Bool) (b : Bus) → roster b.contenders ≡ roster cs → Sound cs before → count owns b.contenders ≤ 1 → (b.inhibit ≡ false → any waits b.contenders ≡ false) → SoundBus (settled b)
+sound_settled : (cs : List Contender) (before : Bool) (b : Bus) → roster b.contenders ≡ roster cs → Sound cs before → count owns b.contenders ≤ 1 → (b.inhibit ≡ false → list_any waits b.contenders ≡ false) → SoundBus (settled b)
 sound_settled cs before b e h one w =
     sound_by_roster cs (settled b).contenders before (settled b).inhibit (roster_settled b ∙ e) h
     (omega (arith, owns_settled b, one))
-    (settles_calm b.contenders b.inhibit (any asks b.contenders) refl w)
+    (settles_calm b.contenders b.inhibit (list_any asks b.contenders) refl w)
 
 -- ---- the calls
-none_waits : (b : Bus) → SoundBus b → b.inhibit ≡ false → any waits b.contenders ≡ false
+none_waits : (b : Bus) → SoundBus b → b.inhibit ≡ false → list_any waits b.contenders ≡ false
 none_waits b h down = not-true _ (subst (λ t. calm b.contenders t ≡ true) down h.4)
 
 pub sound_move : (m : Move) (l : ℕ) (b : Bus) → SoundBus b → SoundBus (after_move m l b)
@@ -69,15 +70,15 @@ sound_move m l b h =
       | false ↦ h
     ]
 
-sound_granted : (w : Contender) (b : Bus) → SoundBus b → any owns b.contenders ≡ false → SoundBus (settled (granted w b))
+sound_granted : (w : Contender) (b : Bus) → SoundBus b → list_any owns b.contenders ≡ false → SoundBus (settled (granted w b))
 sound_granted w b h free =
     sound_settled b.contenders b.inhibit (granted w b) (roster_granted w b) h
     (omega (arith, count_amended_more (asks_as w) (put Owns) owns b.contenders, count_none owns b.contenders free))
-    (λ down. absurdly down)
+    (λ down. absurd (true≢false down))
 
 pub sound_arbitration : (b : Bus) → SoundBus b → SoundBus (after Arbitrate b)
 sound_arbitration b h =
-    (elim (any owns b.contenders) as (λ t. any owns b.contenders ≡ t → SoundBus (cond (is_ok (cond t (Err 22) (by_winner (winner b.contenders)))) (arbitrated (winner b.contenders) b) b)) [
+    (elim (list_any owns b.contenders) as (λ t. list_any owns b.contenders ≡ t → SoundBus (cond (is_ok (cond t (Err 22) (by_winner (winner b.contenders)))) (arbitrated (winner b.contenders) b) b)) [
       | true ↦ λ _. h
       | false ↦ λ free. elim (winner b.contenders) as (λ o. SoundBus (cond (is_ok (by_winner o)) (arbitrated o b) b)) [ None ↦ h | Some w ↦ sound_granted w b h free ]
     ]) refl
@@ -89,19 +90,19 @@ sound_after Arbitrate b h = sound_arbitration b h
 sound_after (Release l) b h = sound_move move.Release l b h
 
 -- ---- a contender more
-distinct_push : (l : ℕ) (cs : List Contender) → any (at_level l) cs ≡ false → distinct (levels cs) ≡ true → distinct (levels cs ++ l ∷ []) ≡ true
+distinct_push : (l : ℕ) (cs : List Contender) → list_any (at_level l) cs ≡ false → distinct (levels cs) ≡ true → distinct (levels cs ++ l ∷ []) ≡ true
 distinct_push l [] free h = refl
 distinct_push l (c ∷ cs) free h =
-    let others = or_parts (at_level l c) (any (at_level l) cs) free in
+    let others = or_parts (at_level l c) (list_any (at_level l) cs) free in
     let parts = and_parts _ _ h in
     and_from _ _ (ap not (any_push (eqb c.level) l others.0 (levels cs)) ∙ parts.0) (distinct_push l cs others.1 parts.1)
 
-pub sound_added : (cs : List Contender) (inhibit : Bool) (l : ℕ) (a : Access) → Sound cs inhibit → length cs < 16 → in_range l a ≡ true → any (at_level l) cs ≡ false → Sound (cs ++ newcomer l a ∷ []) inhibit
+pub sound_added : (cs : List Contender) (inhibit : Bool) (l : ℕ) (a : Access) → Sound cs inhibit → length cs < 16 → in_range l a ≡ true → list_any (at_level l) cs ≡ false → Sound (cs ++ newcomer l a ∷ []) inhibit
 sound_added cs inhibit l a h few fits free =
     let n = newcomer l a in (
       omega (arith, length_push cs n),
       ap distinct (map_push (λ (c : Contender). c.level) cs n) ∙ distinct_push l cs free h.1,
-      every_push ranged n fits cs h.2,
+      all_push ranged n fits cs h.2,
       omega (arith, count_push owns n refl cs, h.3),
       (λ j. cond inhibit (any_push asks n refl cs j) (not (any_push waits n refl cs j))) ∙ h.4,
     )

@@ -1,5 +1,5 @@
 -- Waiting is bounded: the potential over lists of events.
-use Rattle.std.proofs.Common.{◌≡◌, ℕ, ◌+◌, ◌≤◌, Bool, true, false, cond, ◌||◌, List, [], ◌∷◌, ◌++◌, is_ok, Some, None, Ok, Err, Option, sym, refl, ap, ◌∙◌, subst, arith}
+use Rattle.std.proofs.Common.{◌≡◌, ℕ, ◌+◌, ◌≤◌, Bool, true, false, cond, ◌||◌, List, [], ◌∷◌, ◌++◌, is_ok, Some, None, Ok, Err, Option, sym, refl, ap, ◌∙◌, subst, arith, find}
 use Rattle.std.proofs.lemmas.Bool.{cond_both, cond-false, both_ways, or_parts, or_right, not-true}
 use Rattle.arbitration.specs.declared.contenders.State.{State}
 use Rattle.arbitration.specs.declared.contenders.State.TheVariants.{Idle, Waits, Asks, Owns}
@@ -9,7 +9,8 @@ use Rattle.arbitration.specs.declared.contenders.Contender.{Contender}
 use Rattle.arbitration.specs.declared.replies.Answer.TheVariants.{Asking, Waiting}
 use Rattle.arbitration.specs.declared.replies.Event.{Event}
 use Rattle.arbitration.specs.declared.replies.Event.TheVariants.{Wish, Withdraw, Arbitrate, Release}
-use Rattle.arbitration.specs.Lists.{any, count, first, holds}
+use Rattle.std.specs.List.{list_any}
+use Rattle.arbitration.specs.Lists.{count, holds}
 use Rattle.arbitration.specs.Contenders.{same_state, idle, waits, asks, owns, wishes, prioritised, at_level, put, allows, told, reached, refusal_of, moved}
 use Rattle.arbitration.specs.Rules.{Bus, its, settled, made, winner, asks_as, granted, arbitrated, by_contender, by_winner, move_answer, answer, after_move, after}
 use Rattle.arbitration.specs.Sound.{calm}
@@ -39,7 +40,7 @@ told_none move.Withdraw s = refl
 told_none move.Release s = refl
 
 pub move_grants : (m : Move) (l : ℕ) (b : Bus) → granted_by (move_answer m l b) ≡ []
-move_grants m l b = elim (first (at_level l) b.contenders) as (λ o. granted_by (by_contender m b.inhibit o) ≡ []) [
+move_grants m l b = elim (find (at_level l) b.contenders) as (λ o. granted_by (by_contender m b.inhibit o) ≡ []) [
   | None ↦ refl
   | Some c ↦ cond_both (allows m c.state) (Ok (told m (reached m c.access b.inhibit))) (Err (refusal_of m)) (λ r. granted_by r ≡ []) (λ _. told_none m (reached m c.access b.inhibit)) (λ _. refl)
 ]
@@ -69,7 +70,7 @@ module _ (x : ℕ) where
 
   step_arbitrate : (b : Bus) → SoundBus b → its x wishes b ≡ true → its x wishes (after Arbitrate b) ≡ true → phi x (after Arbitrate b) + to_rivals b (granted_by (answer Arbitrate b)) ≤ phi x b
   step_arbitrate b h w =
-      elim (any owns b.contenders) as (λ t. its x wishes (cond (is_ok (cond t (Err 22) (by_winner (winner b.contenders)))) (arbitrated (winner b.contenders) b) b) ≡ true → phi x (cond (is_ok (cond t (Err 22) (by_winner (winner b.contenders)))) (arbitrated (winner b.contenders) b) b) + to_rivals b (granted_by (cond t (Err 22) (by_winner (winner b.contenders)))) ≤ phi x b) [
+      elim (list_any owns b.contenders) as (λ t. its x wishes (cond (is_ok (cond t (Err 22) (by_winner (winner b.contenders)))) (arbitrated (winner b.contenders) b) b) ≡ true → phi x (cond (is_ok (cond t (Err 22) (by_winner (winner b.contenders)))) (arbitrated (winner b.contenders) b) b) + to_rivals b (granted_by (cond t (Err 22) (by_winner (winner b.contenders)))) ≤ phi x b) [
         | true ↦ λ v. omega arith
         | false ↦ λ v. step_grant b (winner b.contenders) (winner_asks b.contenders h.1) w v
       ]
@@ -82,7 +83,7 @@ module _ (x : ℕ) where
 
   -- ---- no event changes a level or an access
   its_after : (q : Contender → Bool) → ((c : Contender) → q (put Idle c) ≡ q c) → (e : Event) (b : Bus) (l : ℕ) → its l q (after e b) ≡ its l q b
-  its_after q blind e b l = by_roster (λ cs. holds q (first (at_level l) cs)) (first_map q (put Idle) blind (at_level l) (λ c. refl)) (after e b).contenders b.contenders (roster_after e b)
+  its_after q blind e b l = by_roster (λ cs. holds q (find (at_level l) cs)) (first_map q (put Idle) blind (at_level l) (λ c. refl)) (after e b).contenders b.contenders (roster_after e b)
 
   to_rivals_after : (e : Event) (b : Bus) (ls : List ℕ) → to_rivals (after e b) ls ≡ to_rivals b ls
   to_rivals_after e b = count_same (λ l. its l (rival x) (after e b)) (λ l. its l (rival x) b) (its_after (rival x) (λ c. refl) e b)
@@ -115,7 +116,7 @@ module _ (x : ℕ) where
   split_event (Wish l) b h = split_move move.Wish l b
   split_event (Withdraw l) b h = split_move move.Withdraw l b
   split_event Arbitrate b h =
-      elim (any owns b.contenders) as (λ t. Split b (granted_by (cond t (Err 22) (by_winner (winner b.contenders))))) [
+      elim (list_any owns b.contenders) as (λ t. Split b (granted_by (cond t (Err 22) (by_winner (winner b.contenders))))) [
         | true ↦ omega arith
         | false ↦ split_grant b (winner b.contenders) (winner_asks b.contenders h.1)
       ]
@@ -156,7 +157,7 @@ module _ (x : ℕ) where
   no_grant_yet (Release l) b i w = ap (to_rivals b) (move_grants move.Release l b)
 
   -- with the inhibit down x asks at once, and the inhibit stays down
-  begins : (m : Move) (l n : ℕ) (cs : List Contender) → holds idle (first (at_level x) cs) ≡ true → phi x (after_move m l (record { number = n; contenders = cs; inhibit = false })) ≤ count (rival x) cs
+  begins : (m : Move) (l n : ℕ) (cs : List Contender) → holds idle (find (at_level x) cs) ≡ true → phi x (after_move m l (record { number = n; contenders = cs; inhibit = false })) ≤ count (rival x) cs
   begins m l n cs i =
       let b : Bus = record { number = n; contenders = cs; inhibit = false } in
       elim (is_ok (move_answer m l b)) as (λ t. phi x (cond t (settled (made m l b)) b) ≤ count (rival x) cs) [
@@ -175,20 +176,20 @@ module _ (x : ℕ) where
   asks_at_once (Release l) b i w down = begins_down move.Release l b i down
 
 -- ---- while somebody wishes and nobody owns, arbitrate is not refused
-wisher_asks : (px : Contender → Bool) (cs : List Contender) → any waits cs ≡ false → holds wishes (first px cs) ≡ true → any asks cs ≡ true
+wisher_asks : (px : Contender → Bool) (cs : List Contender) → list_any waits cs ≡ false → holds wishes (find px cs) ≡ true → list_any asks cs ≡ true
 wisher_asks px [] none = λ h. h
 wisher_asks px (c ∷ cs) none =
-    let parts = or_parts (waits c) (any waits cs) none in
-    elim (px c) as (λ t. holds wishes (cond t (Some c) (first px cs)) ≡ true → (asks c || any asks cs) ≡ true) [
-      | true ↦ λ h. elim (asks c) as (λ t. (t || waits c) ≡ true → (t || any asks cs) ≡ true) [ true ↦ λ _. refl | false ↦ λ w. absurd (both_ways (waits c) parts.0 w) ] h
+    let parts = or_parts (waits c) (list_any waits cs) none in
+    elim (px c) as (λ t. holds wishes (cond t (Some c) (find px cs)) ≡ true → (asks c || list_any asks cs) ≡ true) [
+      | true ↦ λ h. elim (asks c) as (λ t. (t || waits c) ≡ true → (t || list_any asks cs) ≡ true) [ true ↦ λ _. refl | false ↦ λ w. absurd (both_ways (waits c) parts.0 w) ] h
       | false ↦ λ h. or_right _ _ (wisher_asks px cs parts.1 h)
     ]
 
-somebody_asks : (px : Contender → Bool) (cs : List Contender) (up : Bool) → calm cs up ≡ true → holds wishes (first px cs) ≡ true → any asks cs ≡ true
+somebody_asks : (px : Contender → Bool) (cs : List Contender) (up : Bool) → calm cs up ≡ true → holds wishes (find px cs) ≡ true → list_any asks cs ≡ true
 somebody_asks px cs true quiet w = quiet
 somebody_asks px cs false quiet w = wisher_asks px cs (not-true _ quiet) w
 
-pub arbitrate_answered : (x : ℕ) (b : Bus) → SoundBus b → its x wishes b ≡ true → any owns b.contenders ≡ false → is_ok (answer Arbitrate b) ≡ true
+pub arbitrate_answered : (x : ℕ) (b : Bus) → SoundBus b → its x wishes b ≡ true → list_any owns b.contenders ≡ false → is_ok (answer Arbitrate b) ≡ true
 arbitrate_answered x b h w free = ap is_ok (cond-false _ _ _ free) ∙ some_winner b.contenders ∙ somebody_asks (at_level x) b.contenders b.inhibit h.4 w
 
 -- ---- the law

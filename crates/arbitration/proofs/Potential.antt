@@ -1,18 +1,19 @@
 -- A number that falls with each grant to another assured contender, while the contender of level x wishes.
 -- Of the winner it is used only that it asks.
-use Rattle.std.proofs.Common.{◌≡◌, ℕ, ◌+◌, ◌≤◌, Bool, true, false, cond, not, ◌&&◌, List, [], ◌∷◌, map, Some, sym, refl, arith}
-use Rattle.std.proofs.lemmas.Bool.{and_parts, and_right, or_parts}
+use Rattle.std.proofs.Common.{◌≡◌, ℕ, ◌+◌, ◌≤◌, Bool, true, false, cond, not, ◌&&◌, List, [], ◌∷◌, map, Some, sym, refl, arith, find}
+use Rattle.std.proofs.lemmas.Bool.{and_parts, and_right, or_parts, true≢false}
 use Rattle.arbitration.specs.declared.contenders.Access.{Access}
 use Rattle.arbitration.specs.declared.contenders.Access.TheVariants.{Prioritised, Assured}
 use Rattle.arbitration.specs.declared.contenders.State.{State}
 use Rattle.arbitration.specs.declared.contenders.State.TheVariants.{Idle, Asks, Owns}
 use Rattle.arbitration.specs.declared.contenders.Move.{Move}
 use Rattle.arbitration.specs.declared.contenders.Contender.{Contender}
-use Rattle.arbitration.specs.Lists.{any, count, first, holds}
+use Rattle.std.specs.List.{list_any}
+use Rattle.arbitration.specs.Lists.{count, holds}
 use Rattle.arbitration.specs.Contenders.{same_state, is_assured, waits, asks, wishes, at_level, put, next, moved, wake}
 use Rattle.arbitration.specs.Rules.{Bus, its, lifts, settled, made, asks_as, granted}
 use Rattle.arbitration.specs.Waiting.{other, rival, rivals}
-use Rattle.arbitration.proofs.Changing.{absurdly, one_if, count_map, count_amended_le, count_amended_drop, count_le, first_map}
+use Rattle.arbitration.proofs.Changing.{one_if, count_map, count_amended_le, count_amended_drop, count_le, first_map}
 use Rattle.arbitration.proofs.Firsts.{first_map_never, first_kept}
 use Rattle.arbitration.proofs.Rosters.{roster, roster_made, roster_granted, by_roster}
 use Rattle.arbitration.proofs.States.{never_asks, passes_less, woken_waits, woken_wishes, wishing_stays}
@@ -59,11 +60,11 @@ asks_less true m Prioritised s = omega arith
 asks_less true m Assured s = passes_less (same_state Asks) m Assured true (never_asks m) s
 
 -- where nobody asks, one that wishes waits
-quiet_waits : (px : Contender → Bool) (cs : List Contender) → any asks cs ≡ false → holds wishes (first px cs) ≡ true → holds waits (first px cs) ≡ true
+quiet_waits : (px : Contender → Bool) (cs : List Contender) → list_any asks cs ≡ false → holds wishes (find px cs) ≡ true → holds waits (find px cs) ≡ true
 quiet_waits px [] q = λ h. h
 quiet_waits px (c ∷ cs) q =
-    let parts = or_parts (asks c) (any asks cs) q in
-    elim (px c) as (λ t. holds wishes (cond t (Some c) (first px cs)) ≡ true → holds waits (cond t (Some c) (first px cs)) ≡ true) [
+    let parts = or_parts (asks c) (list_any asks cs) q in
+    elim (px c) as (λ t. holds wishes (cond t (Some c) (find px cs)) ≡ true → holds waits (cond t (Some c) (find px cs)) ≡ true) [
       | true ↦ λ h. rw parts.0 at h
       | false ↦ quiet_waits px cs parts.1
     ]
@@ -71,7 +72,7 @@ quiet_waits px (c ∷ cs) q =
 -- settling does not change what waking does not
 pub its_settled : (l : ℕ) (q : Contender → Bool) → ((c : Contender) → q (wake c) ≡ q c) → (b : Bus) → its l q (settled b) ≡ its l q b
 its_settled l q same b =
-    elim (lifts b) as (λ t. holds q (first (at_level l) (cond t (map wake b.contenders) b.contenders)) ≡ its l q b) [
+    elim (lifts b) as (λ t. holds q (find (at_level l) (cond t (map wake b.contenders) b.contenders)) ≡ its l q b) [
       | true ↦ first_map q wake same (at_level l) (λ c. refl) b.contenders
       | false ↦ refl
     ]
@@ -97,14 +98,14 @@ module _ (x : ℕ) where
   pub wishes_settled : (b : Bus) → its x wishes (settled b) ≡ its x wishes b
   wishes_settled b = its_settled x wishes (λ c. woken_wishes c.state) b
 
-  settles_to : (n : ℕ) (cs : List Contender) (up some : Bool) → any asks cs ≡ some → holds wishes (first (at_level x) cs) ≡ true → phi (record { number = n; contenders = cond (up && not some) (map wake cs) cs; inhibit = up && some }) ≤ phi (record { number = n; contenders = cs; inhibit = up })
+  settles_to : (n : ℕ) (cs : List Contender) (up some : Bool) → list_any asks cs ≡ some → holds wishes (find (at_level x) cs) ≡ true → phi (record { number = n; contenders = cond (up && not some) (map wake cs) cs; inhibit = up && some }) ≤ phi (record { number = n; contenders = cs; inhibit = up })
   settles_to n cs false some e w = omega arith
   settles_to n cs true true e w = omega arith
   settles_to n cs true false e w =
       rw (first_map_never (at_level x) waits wake (λ c. woken_waits c.state) cs, quiet_waits (at_level x) cs e w) (omega (arith, count_map (rival x) wake (λ c. refl) cs))
 
   pub phi_settled : (b : Bus) → its x wishes b ≡ true → phi (settled b) ≤ phi b
-  phi_settled b w = settles_to b.number b.contenders b.inhibit (any asks b.contenders) refl w
+  phi_settled b w = settles_to b.number b.contenders b.inhibit (list_any asks b.contenders) refl w
 
   -- ---- a move
   pub phi_made : (m : Move) (l : ℕ) (b : Bus) → its x wishes b ≡ true → its x wishes (made m l b) ≡ true → phi (made m l b) ≤ phi b
@@ -116,7 +117,7 @@ module _ (x : ℕ) where
 
   -- ---- a grant to the contender that asks at the level of w
   abbrev pub won : Contender → Bus → ℕ
-  won w b = one_if (holds (rival x) (first (asks_as w) b.contenders))
+  won w b = one_if (holds (rival x) (find (asks_as w) b.contenders))
 
   asking_granted : (w : Contender) (b : Bus) → asking (granted w b) + won w b ≤ asking b
   asking_granted w b =
@@ -127,6 +128,6 @@ module _ (x : ℕ) where
 
   pub phi_granted : (w : Contender) (b : Bus) → its x wishes b ≡ true → its x wishes (granted w b) ≡ true → phi (granted w b) + won w b ≤ phi b
   phi_granted w b i v =
-      let same = first_kept (at_level x) (asks_as w) (put Owns) (λ c. refl) wishes waits (λ c p q. absurdly (sym q)) b.contenders i v in
+      let same = first_kept (at_level x) (asks_as w) (put Owns) (λ c. refl) wishes waits (λ c p q. absurd (true≢false (sym q))) b.contenders i v in
       rw (same, rivals_by_roster (granted w b).contenders b.contenders (roster_granted w b))
       (pot_grant (its x waits b) b.inhibit (asking b) (asking (granted w b)) (rivals x b) (won w b) (asking_le b) (asking_granted w b))

@@ -1,6 +1,6 @@
 -- Facts of one contender, by its state and its move.
 use Rattle.std.proofs.Common.{◌≡◌, ℕ, ◌≤◌, Bool, true, false, ◌||◌, sym, refl, ap, arith}
-use Rattle.std.proofs.lemmas.Bool.{cond_both, or_parts}
+use Rattle.std.proofs.lemmas.Bool.{cond_both, or_parts, true≢false}
 use Rattle.arbitration.specs.declared.contenders.Access.{Access}
 use Rattle.arbitration.specs.declared.contenders.Access.TheVariants.{Prioritised, Assured}
 use Rattle.arbitration.specs.declared.contenders.State.{State}
@@ -8,7 +8,7 @@ use Rattle.arbitration.specs.declared.contenders.State.TheVariants.{Idle, Waits,
 use Rattle.arbitration.specs.declared.contenders.Move.{Move}
 use Rattle.arbitration.specs.declared.contenders.Move.TheVariants.{Wish, Withdraw, Release}
 use Rattle.arbitration.specs.Contenders.{same_state, allows, reached, next, woken}
-use Rattle.arbitration.proofs.Changing.{absurdly, one_if}
+use Rattle.arbitration.proofs.Changing.{one_if}
 
 -- ---- where no move leads
 pub never_owns : (m : Move) (a : Access) (inhibit : Bool) → same_state Owns (reached m a inhibit) ≡ false
@@ -59,8 +59,8 @@ woken_wishes Owns = refl
 -- ---- idling and wishing
 pub idle_wishes : (s : State) → same_state Idle s ≡ true → (same_state Asks s || same_state Waits s) ≡ false
 idle_wishes Idle p = refl
-idle_wishes Waits p = absurdly (sym p)
-idle_wishes Asks p = absurdly (sym p)
+idle_wishes Waits p = absurd (true≢false (sym p))
+idle_wishes Asks p = absurd (true≢false (sym p))
 idle_wishes Owns p = refl
 
 pub idle_waits : (s : State) → same_state Idle s ≡ true → same_state Waits s ≡ false
@@ -68,11 +68,11 @@ idle_waits s p = (or_parts (same_state Asks s) (same_state Waits s) (idle_wishes
 
 -- who wishes before and after a move waits after it exactly if it waited before
 pub wishing_stays : (m : Move) (a : Access) (inhibit : Bool) (s : State) → (same_state Asks s || same_state Waits s) ≡ true → (same_state Asks (next m a inhibit s) || same_state Waits (next m a inhibit s)) ≡ true → same_state Waits (next m a inhibit s) ≡ same_state Waits s
-wishing_stays m a inhibit Idle p q = absurdly (sym p)
-wishing_stays m a inhibit Owns p q = absurdly (sym p)
+wishing_stays m a inhibit Idle p q = absurd (true≢false (sym p))
+wishing_stays m a inhibit Owns p q = absurd (true≢false (sym p))
 wishing_stays Wish a inhibit Waits p q = refl
 wishing_stays Wish a inhibit Asks p q = refl
-wishing_stays Withdraw a inhibit Waits p q = absurdly (sym q)
-wishing_stays Withdraw a inhibit Asks p q = absurdly (sym q)
+wishing_stays Withdraw a inhibit Waits p q = absurd (true≢false (sym q))
+wishing_stays Withdraw a inhibit Asks p q = absurd (true≢false (sym q))
 wishing_stays Release a inhibit Waits p q = refl
 wishing_stays Release a inhibit Asks p q = refl

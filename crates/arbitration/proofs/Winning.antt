@@ -1,16 +1,16 @@
 -- The winner: the loop that looks for it, that no asker has a higher level, and when there is one.
 use Rattle.std.proofs.Common.{◌≡◌, ℕ, zero, suc, ◌+◌, ◌<◌, ◌≤◌, Bool, true, false, cond, not, ◌&&◌, ◌||◌, ltb, List, [], ◌∷◌, length, get_or, is_ok, Some, None, Ok, Err, Option, sym, refl, ap, ◌∙◌, subst, ⊎_elim, arith}
+use Rattle.std.specs.List.{list_any}
 use Rattle.std.proofs.lemmas.List.{get_or_default}
-use Rattle.std.proofs.lemmas.Bool.{cond-true, cond-false, cond_both, and_from, and_left, and_right, and_cases, or_left, or_right, or_from, or_parts, eq-eqb, ne_eqb, lt-ltb, le-ltb, ltb-true, ltb-false, cases_Bool, cases_eq, both_ways}
+use Rattle.std.proofs.lemmas.List.Sums.{position_or_len_is}
+use Rattle.std.proofs.lemmas.Bool.{cond-true, cond-false, cond_both, true≢false, and_from, and_left, and_right, and_cases, or_left, or_right, or_from, or_parts, eq-eqb, ne_eqb, lt-ltb, le-ltb, ltb-true, ltb-false, cases_Bool, cases_eq, both_ways}
 use Rattle.arbitration.specs.declared.contenders.Contender.{Contender}
 use Rattle.arbitration.specs.declared.replies.Answer.TheVariants.{Granted}
-use Rattle.arbitration.specs.Lists.{any}
 use Rattle.arbitration.specs.Contenders.{asks, owns, outranks}
-use Rattle.arbitration.specs.Rules.{Bus, foremost, winner, by_winner}
-use Rattle.arbitration.specs.Scans.{Won}
+use Rattle.arbitration.specs.Rules.{Bus, foremost, winner, asks_as, by_winner}
+use Rattle.arbitration.specs.Scans.{place_of}
 use Rattle.arbitration.specs.Winning.{Highest, AnsweredIfFreeAndAsked, HighestAskerWins}
-use Rattle.arbitration.proofs.Changing.{absurdly}
-use Rattle.arbitration.proofs.Finding.{NoneBelow, none_on}
+use Rattle.arbitration.proofs.Finding.{NoneBelow, none_on, position_is}
 
 -- of the first n contenders, the one at b is the first of the highest level that asks
 pub record BestAt (cs : List Contender) (n b : ℕ) : Type 0 where
@@ -102,31 +102,26 @@ best_wins (c ∷ cs) (suc b) h d =
       | false ↦ λ _. rest
     ]) refl
 
-pub best_done : (cs : List Contender) (i : ℕ) (o : Option ℕ) → i ≡ length cs → Best cs i o → Won cs o
-best_done cs i None e h = no_winner cs (λ k d lt. h k d (omega arith))
-best_done cs i (Some b) e was =
-    let h : BestAt cs (length cs) b = subst (λ n. BestAt cs n b) e was in
-    let same : (d f : Contender) → get_or cs b d ≡ get_or cs b f = λ d f. get_or_default cs b d f h.within in
-    record {
-      within = h.within;
-      place = λ w. record {
-        within = h.within;
-        here = λ d. and_from _ _ (h.asker d) (eq-eqb _ _ (ap (λ (c : Contender). c.level) (same d w)));
-        before = λ k d lt. ⊎_elim
-            (λ a. and_right _ _ (ne_eqb (get_or cs k d).level (get_or cs b w).level (λ l. omega (arith, h.before k d lt a, ap (λ (c : Contender). c.level) (same d w)))))
-            (λ n. and_left _ _ n)
-            (cases_Bool (asks (get_or cs k d)));
-      };
-      wins = best_wins cs b h;
-    }
+pub best_done : (cs : List Contender) (o : Option ℕ) → Best cs (length cs) o → o ≡ place_of (winner cs) cs
+best_done cs None h = ap (λ w. place_of w cs) (sym (no_winner cs h))
+best_done [] (Some b) h = absurd (omega (arith, h.within))
+best_done (c ∷ cs) (Some b) h =
+    let w : Contender = get_or (c ∷ cs) b c in
+    let first = position_or_len_is (asks_as w) (c ∷ cs) b c (omega (arith, h.within))
+    (λ k lt. ⊎_elim
+    (λ a. and_right _ _ (ne_eqb (get_or (c ∷ cs) k c).level w.level (λ l. omega (arith, h.before k c lt a))))
+    (λ n. and_left _ _ n)
+    (cases_Bool (asks (get_or (c ∷ cs) k c))))
+    (λ _. and_from _ _ (h.asker c) (eq-eqb _ _ refl)) in
+    sym (position_is (asks_as w) (c ∷ cs) b first h.within) ∙ ap (λ o. place_of o (c ∷ cs)) (sym (best_wins (c ∷ cs) b h c))
 
 -- ---- the winner has the highest level that asks
 abbrev above : ℕ → Contender → Bool
 above l c = asks c && ltb l c.level
 
 -- a winner that is there is the highest
-abbrev Tops : List Contender → Option Contender → Type 0
-Tops cs None = any asks cs ≡ false
+abbrev pub Tops : List Contender → Option Contender → Type 0
+Tops cs None = list_any asks cs ≡ false
 Tops cs (Some w) = Highest cs w.level
 
 module _ (c : Contender) (cs : List Contender) where
@@ -134,19 +129,19 @@ module _ (c : Contender) (cs : List Contender) where
   higher_still w h low = record { asks_itself = or_right _ _ h.asks_itself; none_above = or_from _ _ low h.none_above }
 
   -- c asks, and nobody who asks in the rest goes before it
-  on_top : asks c ≡ true → any (above c.level) cs ≡ false → Highest (c ∷ cs) c.level
+  on_top : asks c ≡ true → list_any (above c.level) cs ≡ false → Highest (c ∷ cs) c.level
   on_top a none = record { asks_itself = or_left _ _ (and_from _ _ a (eq-eqb _ _ refl)); none_above = or_from _ _ (and_right _ _ (le-ltb c.level c.level (omega arith))) none }
 
 -- whoever asks above l asks above a lower m too
-above_less : (l m : ℕ) → m ≤ l → (cs : List Contender) → any (above m) cs ≡ false → any (above l) cs ≡ false
+above_less : (l m : ℕ) → m ≤ l → (cs : List Contender) → list_any (above m) cs ≡ false → list_any (above l) cs ≡ false
 above_less l m le [] h = refl
 above_less l m le (c ∷ cs) h =
-    let parts = or_parts (above m c) (any (above m) cs) h in
+    let parts = or_parts (above m c) (list_any (above m) cs) h in
     or_from _ _ (⊎_elim (λ no. and_left _ _ no) (λ low. and_right _ _ (le-ltb l c.level (omega (arith, ltb-false m c.level low)))) (and_cases (asks c) (ltb m c.level) parts.0)) (above_less l m le cs parts.1)
 
-none_above_none : (l : ℕ) (cs : List Contender) → any asks cs ≡ false → any (above l) cs ≡ false
+none_above_none : (l : ℕ) (cs : List Contender) → list_any asks cs ≡ false → list_any (above l) cs ≡ false
 none_above_none l [] h = refl
-none_above_none l (c ∷ cs) h = let parts = or_parts (asks c) (any asks cs) h in or_from _ _ (and_left _ _ parts.0) (none_above_none l cs parts.1)
+none_above_none l (c ∷ cs) h = let parts = or_parts (asks c) (list_any asks cs) h in or_from _ _ (and_left _ _ parts.0) (none_above_none l cs parts.1)
 
 foremost_tops : (c : Contender) (cs : List Contender) (o : Option Contender) → Tops cs o → asks c ≡ true → Highest (c ∷ cs) (foremost c o).level
 foremost_tops c cs None h a = on_top c cs a (none_above_none c.level cs h)
@@ -159,7 +154,7 @@ tops_behind : (c : Contender) (cs : List Contender) (o : Option Contender) → T
 tops_behind c cs None h a = or_from _ _ a h
 tops_behind c cs (Some w) h a = higher_still c cs w h (and_left _ _ a)
 
-winner_tops : (cs : List Contender) → Tops cs (winner cs)
+pub winner_tops : (cs : List Contender) → Tops cs (winner cs)
 winner_tops [] = refl
 winner_tops (c ∷ cs) =
     (elim (asks c) as (λ t. asks c ≡ t → Tops (c ∷ cs) (cond t (Some (foremost c (winner cs))) (winner cs))) [
@@ -168,22 +163,22 @@ winner_tops (c ∷ cs) =
     ]) refl
 
 granted_top : (cs : List Contender) (o : Option Contender) (l : ℕ) → Tops cs o → by_winner o ≡ Ok (Granted l) → Highest cs l
-granted_top cs None l h e = absurdly (sym (ap is_ok e))
+granted_top cs None l h e = absurd (true≢false (sym (ap is_ok e)))
 granted_top cs (Some w) l h e = let same : w.level ≡ l = cc in subst (Highest cs) same h
 
 pub highest_asker_wins : (b : Bus) → HighestAskerWins b
 highest_asker_wins b l =
-    elim (any owns b.contenders) as (λ t. cond t (Err 22) (by_winner (winner b.contenders)) ≡ Ok (Granted l) → Highest b.contenders l) [
-      | true ↦ λ e. absurdly (sym (ap is_ok e))
+    elim (list_any owns b.contenders) as (λ t. cond t (Err 22) (by_winner (winner b.contenders)) ≡ Ok (Granted l) → Highest b.contenders l) [
+      | true ↦ λ e. absurd (true≢false (sym (ap is_ok e)))
       | false ↦ λ e. granted_top b.contenders (winner b.contenders) l (winner_tops b.contenders) e
     ]
 
 -- ---- when an arbitration is answered
 -- there is a winner exactly if somebody asks
-pub some_winner : (cs : List Contender) → is_ok (by_winner (winner cs)) ≡ any asks cs
+pub some_winner : (cs : List Contender) → is_ok (by_winner (winner cs)) ≡ list_any asks cs
 some_winner [] = refl
-some_winner (c ∷ cs) = elim (asks c) as (λ t. is_ok (by_winner (cond t (Some (foremost c (winner cs))) (winner cs))) ≡ (t || any asks cs)) [ true ↦ refl | false ↦ some_winner cs ]
+some_winner (c ∷ cs) = elim (asks c) as (λ t. is_ok (by_winner (cond t (Some (foremost c (winner cs))) (winner cs))) ≡ (t || list_any asks cs)) [ true ↦ refl | false ↦ some_winner cs ]
 
 pub answered_if_free_and_asked : (b : Bus) → AnsweredIfFreeAndAsked b
 answered_if_free_and_asked b =
-    elim (any owns b.contenders) as (λ t. is_ok (cond t (Err 22) (by_winner (winner b.contenders))) ≡ (not t && any asks b.contenders)) [ true ↦ refl | false ↦ some_winner b.contenders ]
+    elim (list_any owns b.contenders) as (λ t. is_ok (cond t (Err 22) (by_winner (winner b.contenders))) ≡ (not t && list_any asks b.contenders)) [ true ↦ refl | false ↦ some_winner b.contenders ]

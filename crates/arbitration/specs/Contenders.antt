@@ -1,5 +1,5 @@
 -- One contender: its state, and what its own calls do to it.
-use Rattle.std.specs.Prelude.{ℕ, Bool, true, false, cond, not, ◌||◌, Ok, Err, Result, ◌==◌, nat_lt}
+use Rattle.std.specs.Prelude.{ℕ, Bool, true, false, if◌then◌else◌, not, ◌||◌, Ok, Err, Result, ◌==◌, nat_lt}
 use Rattle.arbitration.specs.declared.contenders.Access.{Access}
 use Rattle.arbitration.specs.declared.contenders.Access.TheVariants.{Prioritised, Assured}
 use Rattle.arbitration.specs.declared.contenders.State.{State}
@@ -81,23 +81,23 @@ refusal_of Release = 24
 -- where an allowed move leads: a wish to asking, but an assured contender waits while the inhibit is up
 abbrev pub reached : Move → Access → Bool → State
 reached Wish Prioritised inhibit = Asks
-reached Wish Assured inhibit = cond inhibit Waits Asks
+reached Wish Assured inhibit = if inhibit then Waits else Asks
 reached Withdraw access inhibit = Idle
 reached Release access inhibit = Idle
 
 -- what an allowed move answers, by the state that it led to
 abbrev pub told : Move → State → Answer
-told Wish s = cond (same_state Asks s) Asking Waiting
+told Wish s = if same_state Asks s then Asking else Waiting
 told Withdraw s = Done
 told Release s = Done
 
 -- what the move answers, or the number of its refusal
 abbrev pub move_verdict : Move → Bool → Contender → Result Answer ℕ
-move_verdict m inhibit c = cond (allows m c.state) (Ok (told m (reached m c.access inhibit))) (Err (refusal_of m))
+move_verdict m inhibit c = if allows m c.state then Ok (told m (reached m c.access inhibit)) else Err (refusal_of m)
 
 -- the state after the move; a refused move changes nothing
 abbrev pub next : Move → Access → Bool → State → State
-next m access inhibit s = cond (allows m s) (reached m access inhibit) s
+next m access inhibit s = if allows m s then reached m access inhibit else s
 
 -- the contender after the move
 abbrev pub moved : Move → Bool → Contender → Contender
@@ -105,7 +105,7 @@ moved m inhibit c = put (next m c.access inhibit c.state) c
 
 -- the state after settling has lifted the inhibit: who waited asks
 abbrev pub woken : State → State
-woken s = cond (same_state Waits s) Asks s
+woken s = if same_state Waits s then Asks else s
 
 -- the contender after settling has lifted the inhibit
 abbrev pub wake : Contender → Contender

@@ -3,7 +3,7 @@ pub mod Contenders
 pub mod Numbers
 pub mod Rules
 pub mod Sound
-pub mod View
+pub mod Calls
 pub mod Scans
 pub mod Winning
 pub mod Waiting

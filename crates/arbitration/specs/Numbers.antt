@@ -27,7 +27,7 @@ numbered (Ok a) = Ok a
 numbered (Err r) = Err (number_of r)
 
 -- a result of the code, with a refusal as it is reported
-abbrev pub reported : {A : Type 0} → Result A Refusal → Result A Report
+abbrev pub reported : {A : Type 0} → Result A (Refusal Reason) → Result A Report
 reported (Ok a) = Ok a
 reported (Err r) = Err (record { number = number_of r.reason; segment = r.segment })
 

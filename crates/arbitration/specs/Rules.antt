@@ -1,5 +1,5 @@
 -- What happens on a segment, over its contenders and its inhibit.
-use Rattle.std.specs.Prelude.{ℕ, Bool, true, false, cond, not, ◌&&◌, List, [], ◌∷◌, ◌++◌, map, length, is_ok, Some, None, Ok, Err, Option, Result, nat_le}
+use Rattle.std.specs.Prelude.{ℕ, Bool, true, false, if◌then◌else◌, not, ◌&&◌, List, [], ◌∷◌, ◌++◌, map, length, is_ok, Some, None, Ok, Err, Option, Result, nat_le, find, option_map, ok_or}
 use Rattle.arbitration.specs.declared.contenders.Access.{Access}
 use Rattle.arbitration.specs.declared.contenders.Access.TheVariants.{Prioritised, Assured}
 use Rattle.arbitration.specs.declared.contenders.State.{State}
@@ -11,7 +11,8 @@ use Rattle.arbitration.specs.declared.replies.Answer.{Answer}
 use Rattle.arbitration.specs.declared.replies.Answer.TheVariants.{Granted}
 use Rattle.arbitration.specs.declared.replies.Event.{Event}
 use Rattle.arbitration.specs.declared.replies.Event.TheVariants.{Wish, Withdraw, Arbitrate, Release}
-use Rattle.arbitration.specs.Lists.{any, first, holds, amended}
+use Rattle.std.specs.List.{list_any}
+use Rattle.arbitration.specs.Lists.{holds, amended}
 use Rattle.arbitration.specs.Contenders.{at_level, asks, owns, put, moved, move_verdict, wake, outranks}
 
 -- a segment: its number, its contenders in the order in which they were added, and whether the inhibit is up
@@ -22,7 +23,7 @@ pub record Bus : Type 0 where
 
 -- the contender of a level is there, and passes
 abbrev pub its : ℕ → (Contender → Bool) → Bus → Bool
-its l q b = holds q (first (at_level l) b.contenders)
+its l q b = holds q (find (at_level l) b.contenders)
 
 -- ---- setup
 -- a segment that nobody is on
@@ -40,7 +41,7 @@ in_range l a = nat_le 1 l && nat_le l (highest_level a)
 
 -- the number of the refusal of a contender: the segment has 16, its level is out of range, its level is in use
 abbrev pub add_refusal : ℕ → Access → Bus → Option ℕ
-add_refusal l a b = cond (nat_le 16 (length b.contenders)) (Some 6) (cond (not (in_range l a)) (Some 2) (cond (any (at_level l) b.contenders) (Some 3) None))
+add_refusal l a b = if nat_le 16 (length b.contenders) then Some 6 else if not (in_range l a) then Some 2 else if list_any (at_level l) b.contenders then Some 3 else None
 
 -- a contender as it is added: idle
 abbrev pub newcomer : ℕ → Access → Contender
@@ -53,11 +54,11 @@ added l a b = record { number = b.number; contenders = b.contenders ++ newcomer 
 -- ---- the stages of a change
 -- the inhibit is up and nobody asks, so that it has to go down
 abbrev pub lifts : Bus → Bool
-lifts b = b.inhibit && not (any asks b.contenders)
+lifts b = b.inhibit && not (list_any asks b.contenders)
 
 -- settling: where the inhibit has to go down, it does, and all who wait ask
 abbrev pub settled : Bus → Bus
-settled b = record { number = b.number; contenders = cond (lifts b) (map wake b.contenders) b.contenders; inhibit = b.inhibit && any asks b.contenders }
+settled b = record { number = b.number; contenders = if lifts b then map wake b.contenders else b.contenders; inhibit = b.inhibit && list_any asks b.contenders }
 
 -- the contender of a level makes a move
 abbrev pub made : Move → ℕ → Bus → Bus
@@ -66,12 +67,12 @@ made m l b = record { number = b.number; contenders = amended (at_level l) (move
 -- the foremost of c and of the one that is foremost behind it, if there is one
 abbrev pub foremost : Contender → Option Contender → Contender
 foremost c None = c
-foremost c (Some d) = cond (outranks d c) d c
+foremost c (Some d) = if outranks d c then d else c
 
 -- the foremost of those that ask, if anybody does
 abbrev pub winner : List Contender → Option Contender
 winner [] = None
-winner (c ∷ cs) = cond (asks c) (Some (foremost c (winner cs))) (winner cs)
+winner (c ∷ cs) = if asks c then Some (foremost c (winner cs)) else winner cs
 
 -- c asks, and has the level of w
 abbrev pub asks_as : Contender → Contender → Bool
@@ -94,7 +95,7 @@ by_contender m inhibit (Some c) = move_verdict m inhibit c
 
 -- what a move of the contender of a level answers, or the number of its refusal
 abbrev pub move_answer : Move → ℕ → Bus → Result Answer ℕ
-move_answer m l b = by_contender m b.inhibit (first (at_level l) b.contenders)
+move_answer m l b = by_contender m b.inhibit (find (at_level l) b.contenders)
 
 -- what an arbitration answers: the level of the winner, or 23 where there is none, since nobody asks
 abbrev pub by_winner : Option Contender → Result Answer ℕ
@@ -105,35 +106,29 @@ by_winner (Some w) = Ok (Granted w.level)
 abbrev pub answer : Event → Bus → Result Answer ℕ
 answer (Wish l) b = move_answer move.Wish l b
 answer (Withdraw l) b = move_answer move.Withdraw l b
-answer Arbitrate b = cond (any owns b.contenders) (Err 22) (by_winner (winner b.contenders))
+answer Arbitrate b = if list_any owns b.contenders then Err 22 else by_winner (winner b.contenders)
 answer (Release l) b = move_answer move.Release l b
 
 -- the segment after a move of the contender of a level; a refused move changes nothing
 abbrev pub after_move : Move → ℕ → Bus → Bus
-after_move m l b = cond (is_ok (move_answer m l b)) (settled (made m l b)) b
+after_move m l b = if is_ok (move_answer m l b) then settled (made m l b) else b
 
 -- the segment after an event; a refused one changes nothing
 abbrev pub after : Event → Bus → Bus
 after (Wish l) b = after_move move.Wish l b
 after (Withdraw l) b = after_move move.Withdraw l b
-after Arbitrate b = cond (is_ok (answer Arbitrate b)) (arbitrated (winner b.contenders) b) b
+after Arbitrate b = if is_ok (answer Arbitrate b) then arbitrated (winner b.contenders) b else b
 after (Release l) b = after_move move.Release l b
 
 -- ---- the questions
 -- the level of a contender, if there is one
 abbrev pub level_of : Option Contender → Option ℕ
-level_of None = None
-level_of (Some c) = Some c.level
+level_of o = option_map (λ c. c.level) o
 
 -- the level that owns
 abbrev pub owner_of : Bus → Option ℕ
-owner_of b = level_of (first owns b.contenders)
+owner_of b = level_of (find owns b.contenders)
 
--- the state of a contender, or 8 where there is none
-abbrev pub state_or_8 : Option Contender → Result State ℕ
-state_or_8 None = Err 8
-state_or_8 (Some c) = Ok c.state
-
--- what the contender of a level is doing, or the number of the refusal
+-- what the contender of a level is doing, or 8 where there is none
 abbrev pub state_of : ℕ → Bus → Result State ℕ
-state_of l b = state_or_8 (first (at_level l) b.contenders)
+state_of l b = ok_or (option_map (λ c. c.state) (find (at_level l) b.contenders)) 8

@@ -5,7 +5,8 @@ use Rattle.arbitration.specs.declared.replies.Answer.{Answer}
 use Rattle.arbitration.specs.declared.replies.Answer.TheVariants.{Asking, Waiting, Granted, Done}
 use Rattle.arbitration.specs.declared.replies.Event.{Event}
 use Rattle.arbitration.specs.declared.replies.Event.TheVariants.{Arbitrate}
-use Rattle.arbitration.specs.Lists.{any, count}
+use Rattle.std.specs.List.{list_any}
+use Rattle.arbitration.specs.Lists.{count}
 use Rattle.arbitration.specs.Contenders.{idle, owns, wishes, assured, prioritised}
 use Rattle.arbitration.specs.Rules.{Bus, its, answer, after}
 
@@ -59,7 +60,7 @@ pub record Bounded (x : ℕ) (es : List Event) (b : Bus) : Type 0 where
   -- and at most k + p times if the inhibit was down at the wish
   pub at_most_if_down : b.inhibit ≡ false → to_others x (grants es b) ≤ rivals x b + to_prioritised b (grants es b)
   -- and if nobody owns the segment now, arbitrate is not refused
-  pub not_refused : any owns (after_all es b).contenders ≡ false → is_ok (answer Arbitrate (after_all es b)) ≡ true
+  pub not_refused : list_any owns (after_all es b).contenders ≡ false → is_ok (answer Arbitrate (after_all es b)) ≡ true
 
 -- On the segment b, whatever events came before: an assured contender that is idle, comes to wish at the event e
 -- and goes on wishing, is not passed over without end.

@@ -1,19 +1,19 @@
 //! One contender for a segment, and what its own calls do to it.
 ghost use Rattle.std.specs.Prelude.{◌≡◌};
-ghost use Rattle.arbitration.specs.Contenders.{in_state, moved, move_verdict};
+ghost use Rattle.arbitration.specs.Contenders.{in_state, wake, moved, move_verdict};
 ghost use Rattle.arbitration.specs.Numbers.{numbered};
 
 use crate::replies::{Answer, Reason};
 
 /// How a contender takes part: prioritised, it may ask at any time; assured, it waits while the inhibit is up.
-#[derive(Clone, Copy, PartialEq, Debug)]
+#[derive(Clone, Copy, PartialEq, Eq, Debug)]
 pub enum Access {
     Prioritised,
     Assured,
 }
 
 /// What a contender is doing. It wishes while it waits or asks.
-#[derive(Clone, Copy, PartialEq, Debug)]
+#[derive(Clone, Copy, PartialEq, Eq, Debug)]
 pub enum State {
     Idle,
     Waits,
@@ -22,14 +22,16 @@ pub enum State {
 }
 
 /// A call that names one contender.
-#[derive(Clone, Copy)]
+// A value and no closure: a contender's own calls are one `match` on its state, the call and the inhibit (docs/DECISIONS.md).
+#[derive(Clone, Copy, PartialEq, Eq, Debug)]
 pub enum Move {
     Wish,
     Withdraw,
     Release,
 }
 
-#[derive(Clone, Copy, PartialEq, Debug)]
+/// One contender for a segment.
+#[derive(Clone, Copy, PartialEq, Eq, Debug)]
 pub struct Contender {
     pub level: u8,
     pub access: Access,
@@ -38,10 +40,19 @@ pub struct Contender {
 
 impl Contender {
     /// Whether the contender is in the given state.
-    pub(crate) fn is(&self, state: State) -> bool
+    pub fn is(&self, state: State) -> bool
         ensures { result ≡ in_state state self.now }
     {
         self.state == state
+    }
+
+    /// Asks if it waits.
+    pub(crate) fn wake(&mut self)
+        ensures { self.new ≡ wake self.old }
+    {
+        if self.is(State::Waits) {
+            self.state = State::Asks;
+        }
     }
 
     /// Makes the move if the contender's state allows it; else says why not, and changes nothing.
@@ -50,17 +61,11 @@ impl Contender {
         ensures after { self.new ≡ moved step inhibit self.old }
     {
         match (self.state, step, inhibit) {
-            (State::Idle, Move::Wish, true) => match self.access {
-                Access::Prioritised => {
-                    self.state = State::Asks;
-                    Ok(Answer::Asking)
-                }
-                Access::Assured => {
-                    self.state = State::Waits;
-                    Ok(Answer::Waiting)
-                }
-            },
-            (State::Idle, Move::Wish, false) => {
+            (State::Idle, Move::Wish, true) if self.access == Access::Assured => {
+                self.state = State::Waits;
+                Ok(Answer::Waiting)
+            }
+            (State::Idle, Move::Wish, _) => {
                 self.state = State::Asks;
                 Ok(Answer::Asking)
             }

@@ -1,9 +1,12 @@
 //! What a segment is told to do, and what it answers.
 ghost use Rattle.std.specs.Prelude.{◌≡◌};
 ghost use Rattle.arbitration.specs.Numbers.{number_of};
+ghost use Rattle.arbitration.specs.declared.replies.SetupFault.TheVariants.{Refused, NoMemory};
+
+use std::alloc::{AllocError, AllocFailed};
 
 /// One thing that happens on a segment; the number is a contender's level.
-#[derive(Clone, Copy, PartialEq, Debug)]
+#[derive(Clone, Copy, PartialEq, Eq, Debug)]
 pub enum Event {
     Wish(u8),
     Withdraw(u8),
@@ -12,7 +15,7 @@ pub enum Event {
 }
 
 /// What a call that was not refused answers.
-#[derive(Clone, Copy, PartialEq, Debug)]
+#[derive(Clone, Copy, PartialEq, Eq, Debug)]
 pub enum Answer {
     /// A wish: the contender asks.
     Asking,
@@ -25,7 +28,7 @@ pub enum Answer {
 }
 
 /// Why a call is refused.
-#[derive(Clone, Copy, PartialEq, Debug)]
+#[derive(Clone, Copy, PartialEq, Eq, Debug)]
 pub enum Reason {
     OutOfRange,
     LevelInUse,
@@ -38,26 +41,42 @@ pub enum Reason {
     NotTheOwner,
 }
 
-/// A refusal and its place, the number of the segment that refused.
-#[derive(Clone, Copy, PartialEq, Debug)]
-pub struct Refusal {
-    pub reason: Reason,
+/// A refusal: its reason, one of those of the layer that refuses, and its place, the number of the segment that was called.
+#[derive(Clone, Copy, PartialEq, Eq, Debug)]
+pub struct Refusal<R> {
+    pub reason: R,
     pub segment: u8,
 }
 
 /// Why a contender could not be added: a refusal, or no memory was left for it.
-#[derive(Clone, Copy, PartialEq, Debug)]
+#[derive(Clone, Copy, PartialEq, Eq, Debug)]
 pub enum SetupFault {
-    Refused(Refusal),
-    NoMemory,
+    Refused(Refusal<Reason>),
+    NoMemory(AllocError),
 }
 
-impl Reason {
-    /// The number under which the refusal is reported.
-    pub fn number(self) -> u8
-        ensures { result ≡ number_of self }
-    {
-        match self {
+impl From<Refusal<Reason>> for SetupFault {
+    ghost from_gives = { λ refusal fault. fault ≡ Refused refusal };
+
+    fn from(refusal: Refusal<Reason>) -> SetupFault {
+        SetupFault::Refused(refusal)
+    }
+}
+
+impl<T: Drop> From<AllocFailed<T>> for SetupFault {
+    ghost from_gives = { λ _ fault. fault ≡ NoMemory (record {}) };
+
+    fn from(failed: AllocFailed<T>) -> SetupFault {
+        SetupFault::NoMemory(failed.into())
+    }
+}
+
+/// The number under which a refusal is reported.
+impl From<Reason> for u8 {
+    ghost from_gives = { λ reason number. number ≡ number_of reason };
+
+    fn from(reason: Reason) -> u8 {
+        match reason {
             Reason::OutOfRange => 2,
             Reason::LevelInUse => 3,
             Reason::TooManyContenders => 6,

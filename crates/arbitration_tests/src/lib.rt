@@ -23,13 +23,13 @@ mod tests {
     // Checks that a call was refused under the number, and where.
     fn check_refused<T: Drop>(
         rt: &impl Abort,
-        answer: Result<T, Refusal>,
+        answer: Result<T, Refusal<Reason>>,
         number: u8,
     ) -> Result<(), Fail> {
         match answer {
             Ok(_) => Err(Fail::new("not refused")),
             Err(refusal) => {
-                assert_eq!(rt; refusal.reason.number(), number);
+                assert_eq!(rt; u8::from(refusal.reason), number);
                 assert_eq!(rt; refusal.segment, NUMBER);
                 Ok(())
             }
@@ -47,7 +47,7 @@ mod tests {
         let before = segment.contenders().len();
         match segment.add_contender(level, access) {
             Ok(()) => Err(Fail::new("not refused")),
-            Err(SetupFault::NoMemory) => Err(Fail::new("no memory")),
+            Err(SetupFault::NoMemory(_)) => Err(Fail::new("no memory")),
             Err(SetupFault::Refused(refusal)) => {
                 check_refused::<()>(rt, Err(refusal), number)?;
                 assert_eq!(rt; segment.contenders().len(), before);
@@ -57,22 +57,20 @@ mod tests {
     }
 
     fn check_load(rt: &impl Abort, segment: &Segment, asking: usize, waiting: usize) {
-        let load = segment.load();
-        assert_eq!(rt; load.asking, asking);
-        assert_eq!(rt; load.waiting, waiting);
+        assert_eq!(rt; segment.load(), Load { asking, waiting });
     }
 
     #[test]
     fn the_next_round_is_for_those_who_waited(rt: HostRuntime) -> Result<(), Fail> {
         let mut segment = segment(&rt, rt.alloc());
-        assert!(rt; matches!(segment.wish(5), Ok(Answer::Asking)));
-        assert!(rt; matches!(segment.wish(9), Ok(Answer::Asking)));
-        assert!(rt; matches!(segment.arbitrate(), Ok(Answer::Granted(9))));
-        assert!(rt; matches!(segment.release(9), Ok(Answer::Done)));
-        assert!(rt; matches!(segment.wish(9), Ok(Answer::Waiting)));
-        assert!(rt; matches!(segment.arbitrate(), Ok(Answer::Granted(5))));
+        assert_eq!(rt; segment.wish(5), Ok(Answer::Asking));
+        assert_eq!(rt; segment.wish(9), Ok(Answer::Asking));
+        assert_eq!(rt; segment.arbitrate(), Ok(Answer::Granted(9)));
+        assert_eq!(rt; segment.release(9), Ok(Answer::Done));
+        assert_eq!(rt; segment.wish(9), Ok(Answer::Waiting));
+        assert_eq!(rt; segment.arbitrate(), Ok(Answer::Granted(5)));
         assert!(rt; !segment.inhibit());
-        assert!(rt; matches!(segment.state(9), Ok(State::Asks)));
+        assert_eq!(rt; segment.state(9), Ok(State::Asks));
         assert_eq!(rt; segment.owner(), Some(5));
         check_refused(&rt, segment.arbitrate(), 22)
     }
@@ -81,21 +79,21 @@ mod tests {
     fn a_prioritised_level_beats_those_who_ask_while_the_inhibit_is_up(rt: HostRuntime) {
         let mut segment = segment(&rt, rt.alloc());
         assert!(rt; segment.add_contender(40, Access::Prioritised).is_ok());
-        assert!(rt; matches!(segment.wish(5), Ok(Answer::Asking)));
-        assert!(rt; matches!(segment.wish(9), Ok(Answer::Asking)));
-        assert!(rt; matches!(segment.arbitrate(), Ok(Answer::Granted(9))));
+        assert_eq!(rt; segment.wish(5), Ok(Answer::Asking));
+        assert_eq!(rt; segment.wish(9), Ok(Answer::Asking));
+        assert_eq!(rt; segment.arbitrate(), Ok(Answer::Granted(9)));
         assert!(rt; segment.inhibit());
-        assert!(rt; matches!(segment.wish(40), Ok(Answer::Asking)));
-        assert!(rt; matches!(segment.release(9), Ok(Answer::Done)));
-        assert!(rt; matches!(segment.arbitrate(), Ok(Answer::Granted(40))));
+        assert_eq!(rt; segment.wish(40), Ok(Answer::Asking));
+        assert_eq!(rt; segment.release(9), Ok(Answer::Done));
+        assert_eq!(rt; segment.arbitrate(), Ok(Answer::Granted(40)));
         assert!(rt; segment.inhibit());
     }
 
     #[test]
     fn a_sole_asker_wins_and_the_inhibit_is_down_after(rt: HostRuntime) {
         let mut segment = segment(&rt, rt.alloc());
-        assert!(rt; matches!(segment.wish(5), Ok(Answer::Asking)));
-        assert!(rt; matches!(segment.arbitrate(), Ok(Answer::Granted(5))));
+        assert_eq!(rt; segment.wish(5), Ok(Answer::Asking));
+        assert_eq!(rt; segment.arbitrate(), Ok(Answer::Granted(5)));
         assert!(rt; !segment.inhibit());
         assert_eq!(rt; segment.owner(), Some(5));
     }
@@ -105,18 +103,18 @@ mod tests {
     fn an_assured_contender_that_waits_may_see_another_granted_twice(rt: HostRuntime) {
         let mut segment = segment(&rt, rt.alloc());
         assert!(rt; segment.add_contender(40, Access::Prioritised).is_ok());
-        assert!(rt; matches!(segment.wish(9), Ok(Answer::Asking)));
-        assert!(rt; matches!(segment.wish(40), Ok(Answer::Asking)));
-        assert!(rt; matches!(segment.arbitrate(), Ok(Answer::Granted(40))));
-        assert!(rt; matches!(segment.wish(5), Ok(Answer::Waiting)));
-        assert!(rt; matches!(segment.release(40), Ok(Answer::Done)));
-        assert!(rt; matches!(segment.arbitrate(), Ok(Answer::Granted(9))));
-        assert!(rt; matches!(segment.release(9), Ok(Answer::Done)));
-        assert!(rt; matches!(segment.wish(9), Ok(Answer::Asking)));
-        assert!(rt; matches!(segment.arbitrate(), Ok(Answer::Granted(9))));
-        assert!(rt; matches!(segment.release(9), Ok(Answer::Done)));
-        assert!(rt; matches!(segment.wish(9), Ok(Answer::Waiting)));
-        assert!(rt; matches!(segment.arbitrate(), Ok(Answer::Granted(5))));
+        assert_eq!(rt; segment.wish(9), Ok(Answer::Asking));
+        assert_eq!(rt; segment.wish(40), Ok(Answer::Asking));
+        assert_eq!(rt; segment.arbitrate(), Ok(Answer::Granted(40)));
+        assert_eq!(rt; segment.wish(5), Ok(Answer::Waiting));
+        assert_eq!(rt; segment.release(40), Ok(Answer::Done));
+        assert_eq!(rt; segment.arbitrate(), Ok(Answer::Granted(9)));
+        assert_eq!(rt; segment.release(9), Ok(Answer::Done));
+        assert_eq!(rt; segment.wish(9), Ok(Answer::Asking));
+        assert_eq!(rt; segment.arbitrate(), Ok(Answer::Granted(9)));
+        assert_eq!(rt; segment.release(9), Ok(Answer::Done));
+        assert_eq!(rt; segment.wish(9), Ok(Answer::Waiting));
+        assert_eq!(rt; segment.arbitrate(), Ok(Answer::Granted(5)));
     }
 
     #[test]
@@ -135,9 +133,9 @@ mod tests {
         check_refused(&rt, segment.arbitrate(), 23)?;
         check_refused(&rt, segment.withdraw(5), 21)?;
         check_refused(&rt, segment.release(5), 24)?;
-        assert!(rt; matches!(segment.wish(5), Ok(Answer::Asking)));
+        assert_eq!(rt; segment.wish(5), Ok(Answer::Asking));
         check_refused(&rt, segment.wish(5), 20)?;
-        assert!(rt; matches!(segment.arbitrate(), Ok(Answer::Granted(5))));
+        assert_eq!(rt; segment.arbitrate(), Ok(Answer::Granted(5)));
         check_refused(&rt, segment.wish(5), 20)?;
         check_refused(&rt, segment.release(9), 24)?;
         check_refused(&rt, segment.arbitrate(), 22)
@@ -173,27 +171,27 @@ mod tests {
     #[test]
     fn the_load_is_how_many_ask_and_how_many_wait(rt: HostRuntime) {
         let mut segment = segment(&rt, rt.alloc());
-        assert!(rt; matches!(segment.wish(5), Ok(Answer::Asking)));
-        assert!(rt; matches!(segment.wish(9), Ok(Answer::Asking)));
+        assert_eq!(rt; segment.wish(5), Ok(Answer::Asking));
+        assert_eq!(rt; segment.wish(9), Ok(Answer::Asking));
         check_load(&rt, &segment, 2, 0);
-        assert!(rt; matches!(segment.arbitrate(), Ok(Answer::Granted(9))));
-        assert!(rt; matches!(segment.release(9), Ok(Answer::Done)));
-        assert!(rt; matches!(segment.wish(9), Ok(Answer::Waiting)));
+        assert_eq!(rt; segment.arbitrate(), Ok(Answer::Granted(9)));
+        assert_eq!(rt; segment.release(9), Ok(Answer::Done));
+        assert_eq!(rt; segment.wish(9), Ok(Answer::Waiting));
         check_load(&rt, &segment, 1, 1);
-        assert!(rt; matches!(segment.withdraw(5), Ok(Answer::Done)));
+        assert_eq!(rt; segment.withdraw(5), Ok(Answer::Done));
         check_load(&rt, &segment, 1, 0);
     }
 
     #[test]
     fn each_event_is_answered_as_its_call_is(rt: HostRuntime) -> Result<(), Fail> {
         let mut segment = segment(&rt, rt.alloc());
-        assert!(rt; matches!(segment.apply(Event::Wish(5)), Ok(Answer::Asking)));
-        assert!(rt; matches!(segment.apply(Event::Arbitrate), Ok(Answer::Granted(5))));
+        assert_eq!(rt; segment.apply(Event::Wish(5)), Ok(Answer::Asking));
+        assert_eq!(rt; segment.apply(Event::Arbitrate), Ok(Answer::Granted(5)));
         check_refused(&rt, segment.apply(Event::Wish(5)), 20)?;
-        assert!(rt; matches!(segment.apply(Event::Release(5)), Ok(Answer::Done)));
-        assert!(rt; matches!(segment.apply(Event::Wish(9)), Ok(Answer::Asking)));
-        assert!(rt; matches!(segment.apply(Event::Withdraw(9)), Ok(Answer::Done)));
-        assert!(rt; matches!(segment.state(9), Ok(State::Idle)));
+        assert_eq!(rt; segment.apply(Event::Release(5)), Ok(Answer::Done));
+        assert_eq!(rt; segment.apply(Event::Wish(9)), Ok(Answer::Asking));
+        assert_eq!(rt; segment.apply(Event::Withdraw(9)), Ok(Answer::Done));
+        assert_eq!(rt; segment.state(9), Ok(State::Idle));
         Ok(())
     }
 }

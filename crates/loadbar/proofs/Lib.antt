@@ -1,4 +1,5 @@
 pub mod Reading
+pub mod Spelling
 pub mod Writing
 pub mod Telling
 pub mod Lines

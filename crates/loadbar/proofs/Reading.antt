@@ -1,34 +1,41 @@
--- Reading numbers and the words of a line.
-use Rattle.std.proofs.Common.{◌≡◌, ℕ, ◌+◌, ◌<◌, ◌≤◌, false, eqb, List, [], ◌∷◌, length, get_or, drop, Some, Option, Result, sym, refl, ap, ◌∙◌, arith}
-use Rattle.std.proofs.lemmas.List.{at_drop_more, at_drop_all}
-use Rattle.std.proofs.lemmas.Bool.{cond-false}
-use Rattle.loadbar.specs.declared.scripts.Line.{Line}
-use Rattle.loadbar.specs.declared.scripts.Unreadable.{Unreadable}
-use Rattle.loadbar.specs.declared.scripts.Verb.{Verb}
-use Rattle.loadbar.specs.Words.{word, rest, shifted, shifted_on, number}
-use Rattle.loadbar.specs.Scripts.{verb_of, missing, completed, by_verb, understood}
+-- Reading numbers.
+use Rattle.std.proofs.Common.{◌≡◌, ℕ, ◌<◌, List, [], ◌∷◌, length, Some, None, Option, Bor, Iter, refl, sym, ap, ◌∙◌, arith}
+use Rattle.std.specs.ControlFlow.{continue_value}
+use Rattle.std.specs.Fn.{Mut, Called}
+use Rattle.std.specs.Iterator.{Yields, TryFoldTurn, TryFoldsItems}
+use Rattle.std.specs.List.{FoldsTo}
+use Rattle.std.specs.Option.{MatchOption}
+use Rattle.std.specs.declared.ops.ControlFlow.{ControlFlow}
+use Rattle.std.proofs.lemmas.Fn.{fronts}
+use Rattle.std.proofs.lemmas.List.{nil_from_length}
+use Rattle.loadbar.specs.Words.{shifted, shifted_on, number}
 
 pub number_not_empty : (w : List ℕ) → 0 < length w → shifted_on (Some 0) w ≡ number w
 number_not_empty [] h = absurd (omega arith)
 number_not_empty (b ∷ w) h = refl
 
-module _ (w : List ℕ) (i n : ℕ) (inv : shifted_on (Some n) (drop i w) ≡ shifted_on (Some 0) w) where
-  pub number_on : i < length w → (o : Option ℕ) → o ≡ shifted n (get_or w i 0) → shifted_on o (drop (i + 1) w) ≡ shifted_on (Some 0) w
-  number_on lt o is = ap (λ p. shifted_on p (drop (i + 1) w)) is ∙ sym (at_drop_more (shifted_on (Some n)) w i 0 lt) ∙ inv
+-- a `try_fold` over bytes whose calls each put one digit more behind the number so far
+module _ (E : Type 0) {F : Type 0} (g : Mut F (ℕ × (Bor ℕ × Unit {0})) (Option ℕ))
+    (digit : (f : F) (n : ℕ) (x : Bor ℕ) (v : Option ℕ) (f' : F) → Called g f (n, (x, tt)) v f' → v ≡ shifted n x.now) where
+  -- the calls that go on take up the bytes that they were given
+  goes : (xs : List (Bor ℕ)) (s t : Iter ℕ) (p q : F × ℕ) → Yields fronts s xs t → FoldsTo (TryFoldTurn g (λ v (k : ControlFlow E ℕ). v ≡ continue_value k)) p xs q → shifted_on (Some p.1) s.rest.now ≡ shifted_on (Some q.1) t.rest.now
+  goes [] s t p q same kept = λ j. shifted_on (Some (kept j).1) (same j).rest.now
+  goes (x ∷ xs) s t p q y k =
+      ap (shifted_on (Some p.1)) y.1
+      ∙ ap (λ o. shifted_on o y.0.rest.now) (sym (digit p.0 p.1 x k.1.0 k.0.0 k.1.1) ∙ k.1.2)
+      ∙ goes xs y.0 t k.0 q y.2 k.2
 
-  pub number_done : length w ≤ i → 0 < length w → Some n ≡ number w
-  number_done all some = sym (at_drop_all (shifted_on (Some n)) w i all) ∙ inv ∙ number_not_empty w some
+  -- and the last one takes up the rest, or breaks off
+  ends : (o : Option (Bor ℕ)) (t u : Iter ℕ) (f : F) (n : ℕ) (r : Option ℕ) → fronts t o u
+      → MatchOption o (r ≡ Some n) (λ x. (v : Option ℕ) × (h : F) × (e : E) × Called g f (n, (x, tt)) v h × (v ≡ None) × (r ≡ None))
+      → shifted_on (Some n) t.rest.now ≡ r
+  ends None t u f n r step end = ap (shifted_on (Some n)) (nil_from_length t.rest.now step.0) ∙ sym end
+  ends (Some x) t u f n r step end =
+      ap (shifted_on (Some n)) step
+      ∙ ap (λ o. shifted_on o u.rest.now) (sym (digit f n x end.0 end.1 end.3) ∙ end.4)
+      ∙ sym end.5
 
--- ---- the words of a line, cut off one after the other
-not_missing : (w : List ℕ) → eqb (length w) 0 ≡ false → missing w ≡ false
-not_missing [] h = h
-not_missing (b ∷ w) h = refl
-
-pub understood_by : (t : List ℕ) {w₁ w₂ w₃ w₄ r₁ r₂ r₃ : List ℕ} {v : Verb} {x : Result Line Unreadable} → w₁ ≡ word t → r₁ ≡ rest t → w₂ ≡ word r₁ → r₂ ≡ rest r₁ → w₃ ≡ word r₂ → r₃ ≡ rest r₂ → w₄ ≡ word r₃ → eqb (length w₁) 0 ≡ false → Some v ≡ verb_of w₁ → x ≡ completed v w₂ w₃ w₄ → x ≡ understood t
-understood_by t {w₁} {w₂} {w₃} {w₄} {r₁} {r₂} {r₃} {v} first r_1 second r_2 third r_3 fourth some verb is =
-    let two : w₂ ≡ word (rest t) = second ∙ ap word r_1 in
-    let rest_2 : r₂ ≡ rest (rest t) = r_2 ∙ ap rest r_1 in
-    let three : w₃ ≡ word (rest (rest t)) = third ∙ ap word rest_2 in
-    let four : w₄ ≡ word (rest (rest (rest t))) = fourth ∙ ap word (r_3 ∙ ap rest rest_2) in
-    let named : Some v ≡ verb_of (word t) = verb ∙ ap verb_of first in
-    is ∙ (λ j. by_verb (named j) (two j) (three j) (four j)) ∙ sym (cond-false _ _ _ (ap missing (sym first) ∙ not_missing w₁ some))
+  pub shifted_by_try_fold : (s u : Iter ℕ) (f : F) (n : ℕ) (r : Option ℕ) → TryFoldsItems fronts g (λ v (k : ControlFlow E ℕ). v ≡ continue_value k) (λ e v. v ≡ None) s f n r u → r ≡ shifted_on (Some n) s.rest.now
+  shifted_by_try_fold s u f n r ran =
+      let there = ran.4 in
+      sym (goes ran.0 s there.0 (f, n) (ran.2, ran.3) there.1 ran.5 ∙ ends ran.1 there.0 u ran.2 ran.3 r there.2 ran.6)

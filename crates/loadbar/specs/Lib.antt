@@ -2,4 +2,3 @@ pub mod Words
 pub mod Scripts
 pub mod Listing
 pub mod Runs
-pub mod View

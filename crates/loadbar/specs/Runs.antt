@@ -1,22 +1,18 @@
 -- What a script prints, line by line.
-use Rattle.std.specs.Prelude.{ℕ, ◌+◌, min, cond, List, [], ◌∷◌, ◌++◌, Some, None, Ok, Err, Option, Result, ◌==◌}
+-- A Run is how far a script has come: the segment, the number of lines read, and the number of calls made.
+use Rattle.std.specs.Prelude.{ℕ, ◌+◌, min, if◌then◌else◌, List, [], ◌∷◌, ◌++◌, Some, None, Ok, Err, Option, Result, ◌==◌}
 use Rattle.arbitration.specs.declared.contenders.Access.{Access}
 use Rattle.arbitration.specs.declared.replies.Event.{Event}
 use Rattle.arbitration.specs.Rules.{Bus, empty, add_refusal, added, answer, after}
+use Rattle.loadbar.specs.declared.runs.Run.{Run}
 use Rattle.loadbar.specs.declared.scripts.Line.{Line}
 use Rattle.loadbar.specs.declared.scripts.Line.TheVariants.{Blank, Contender, Call}
 use Rattle.loadbar.specs.declared.scripts.Unreadable.{Unreadable}
 use Rattle.loadbar.specs.Listing.{complaint, call_line, message_line, refused_line}
 use Rattle.loadbar.specs.Scripts.{read}
 
--- how far a script has come: its segment, the lines read and the calls made
-pub record Progress : Type 0 where
-  pub segment : Bus
-  pub lines : ℕ
-  pub calls : ℕ
-
 -- before the first line: the segment 1, with nobody on it
-abbrev pub start : Progress
+abbrev pub start : Run
 start = record { segment = empty 1; lines = 0; calls = 0 }
 
 -- the next number; counts stop at the largest that 64 bits hold
@@ -30,8 +26,8 @@ unless_refused None l a b = added l a b
 unless_refused (Some n) l a b = b
 
 -- after a line that adds a contender
-abbrev pub with_contender : ℕ → Access → Progress → Progress
-with_contender l a p = record { segment = unless_refused (add_refusal l a p.segment) l a p.segment; lines = p.lines; calls = p.calls }
+abbrev pub with_contender : ℕ → Access → Run → Run
+with_contender l a r = record { segment = unless_refused (add_refusal l a r.segment) l a r.segment; lines = r.lines; calls = r.calls }
 
 -- the message, if the contender is refused
 abbrev pub if_refused : Option ℕ → ℕ → List ℕ
@@ -39,44 +35,44 @@ if_refused None line = []
 if_refused (Some n) line = refused_line line n
 
 -- what a line that adds a contender prints
-abbrev pub contender_text : ℕ → Access → Progress → List ℕ
-contender_text l a p = if_refused (add_refusal l a p.segment) p.lines
+abbrev pub contender_text : ℕ → Access → Run → List ℕ
+contender_text l a r = if_refused (add_refusal l a r.segment) r.lines
 
 -- ---- a call
 -- after a call
-abbrev pub with_call : Event → Progress → Progress
-with_call e p = record { segment = after e p.segment; lines = p.lines; calls = next p.calls }
+abbrev pub with_call : Event → Run → Run
+with_call e r = record { segment = after e r.segment; lines = r.lines; calls = next r.calls }
 
 -- what a call prints
-abbrev pub call_text : Event → Progress → List ℕ
-call_text e p = call_line (next p.calls) (answer e p.segment) (after e p.segment)
+abbrev pub call_text : Event → Run → List ℕ
+call_text e r = call_line (next r.calls) (answer e r.segment) (after e r.segment)
 
 -- ---- a line
 -- one line more
-abbrev pub counted : Progress → Progress
-counted p = record { segment = p.segment; lines = next p.lines; calls = p.calls }
+abbrev pub counted : Run → Run
+counted r = record { segment = r.segment; lines = next r.lines; calls = r.calls }
 
 -- after what a line says
-abbrev pub done : Result Line Unreadable → Progress → Progress
-done (Err u) p = p
-done (Ok Blank) p = p
-done (Ok (Contender l a)) p = with_contender l a p
-done (Ok (Call e)) p = with_call e p
+abbrev pub done : Result Line Unreadable → Run → Run
+done (Err u) r = r
+done (Ok Blank) r = r
+done (Ok (Contender l a)) r = with_contender l a r
+done (Ok (Call e)) r = with_call e r
 
 -- what is printed for what a line says
-abbrev pub text_of : Result Line Unreadable → Progress → List ℕ
-text_of (Err u) p = message_line p.lines (complaint u)
-text_of (Ok Blank) p = []
-text_of (Ok (Contender l a)) p = contender_text l a p
-text_of (Ok (Call e)) p = call_text e p
+abbrev pub text_of : Result Line Unreadable → Run → List ℕ
+text_of (Err u) r = message_line r.lines (complaint u)
+text_of (Ok Blank) r = []
+text_of (Ok (Contender l a)) r = contender_text l a r
+text_of (Ok (Call e)) r = call_text e r
 
 -- after a line
-abbrev pub taken_in : List ℕ → Progress → Progress
-taken_in line p = done (read line) (counted p)
+abbrev pub taken_in : List ℕ → Run → Run
+taken_in line r = done (read line) (counted r)
 
 -- what a line prints
-abbrev pub printed : List ℕ → Progress → List ℕ
-printed line p = text_of (read line) (counted p)
+abbrev pub printed : List ℕ → Run → List ℕ
+printed line r = text_of (read line) (counted r)
 
 -- ---- a script
 -- a byte in front of the first line
@@ -87,12 +83,12 @@ prefixed b (l ∷ ls) = (b ∷ l) ∷ ls
 -- the lines of a text, without their ends; the last needs no end
 abbrev pub lines_of : List ℕ → List (List ℕ)
 lines_of [] = []
-lines_of (b ∷ bs) = cond (b == 10) ([] ∷ lines_of bs) (prefixed b (lines_of bs))
+lines_of (b ∷ bs) = if b == 10 then [] ∷ lines_of bs else prefixed b (lines_of bs)
 
 -- what the lines print, one after the other
-abbrev pub report : List (List ℕ) → Progress → List ℕ
-report [] p = []
-report (l ∷ ls) p = printed l p ++ report ls (taken_in l p)
+abbrev pub report : List (List ℕ) → Run → List ℕ
+report [] r = []
+report (l ∷ ls) r = printed l r ++ report ls (taken_in l r)
 
 -- what a script prints
 abbrev pub listing : List ℕ → List ℕ

@@ -1,43 +1,43 @@
--- How a script is cut into lines and words, and which number a word writes.
-use Rattle.std.specs.Prelude.{ℕ, ◌+◌, ◌-◌, ◌*◌, Bool, cond, not, ◌&&◌, ◌||◌, List, [], ◌∷◌, take, drop, Some, None, Option, ◌==◌, nat_le}
-use Rattle.std.specs.List.{prefix_len}
-use Rattle.loadbar.specs.declared.words.Class.{Class}
-use Rattle.loadbar.specs.declared.words.Class.TheVariants.{Blank, Ink, Code, Line}
+-- How a line is cut into words, and which number a word writes.
+use Rattle.std.specs.Prelude.{◌≡◌, ℕ, ◌+◌, ◌-◌, ◌*◌, Bool, if◌then◌else◌, not, ◌&&◌, ◌||◌, List, [], ◌∷◌, drop, Some, None, Option, ◌==◌, nat_le}
+use Rattle.std.specs.List.{before_first, position_or_len}
+
+-- what the calls of a test may give at a byte is what p says of it
+abbrev pub Computes : (ℕ → Bool → Type 0) → (ℕ → Bool) → Type 0
+Computes gives p = (b : ℕ) (r : Bool) → gives b r → r ≡ p b
+
+-- the text from its first byte that passes the test on, empty where none does
+abbrev pub from : (ℕ → Bool) → List ℕ → List ℕ
+from p t = drop (position_or_len p t) t
 
 -- a space, a tab or a carriage return
 abbrev pub blank : ℕ → Bool
 blank b = b == 32 || (b == 9 || b == 13)
 
--- the byte is of the class: blank; not blank; no `#`; no end of line
-abbrev pub in_class : Class → ℕ → Bool
-in_class Blank b = blank b
-in_class Ink b = not (blank b)
-in_class Code b = not (b == 35)
-in_class Line b = not (b == 10)
-
 -- the text from its first byte that is not blank
 abbrev pub inked : List ℕ → List ℕ
-inked t = drop (prefix_len (in_class Blank) t) t
+inked t = from (λ b. not (blank b)) t
 
 -- the first word, empty if there is none
 abbrev pub word : List ℕ → List ℕ
-word t = take (prefix_len (in_class Ink) (inked t)) (inked t)
+word t = before_first blank (inked t)
 
 -- what follows the first word
 abbrev pub rest : List ℕ → List ℕ
-rest t = drop (prefix_len (in_class Ink) (inked t)) (inked t)
+rest t = from blank (inked t)
 
--- the first line, without its end
-abbrev pub line : List ℕ → List ℕ
-line t = take (prefix_len (in_class Line) t) t
+-- a word, unless it is empty
+abbrev pub unless_empty : List ℕ → Option (List ℕ)
+unless_empty [] = None
+unless_empty (b ∷ bs) = Some (b ∷ bs)
 
--- what follows the first line and its end
-abbrev pub following : List ℕ → List ℕ
-following t = drop 1 (drop (prefix_len (in_class Line) t) t)
+-- the first word, if there is one
+abbrev pub first_word : List ℕ → Option (List ℕ)
+first_word t = unless_empty (word t)
 
 -- one digit more behind a number, up to 255
 abbrev pub shifted : ℕ → ℕ → Option ℕ
-shifted n b = cond (nat_le 48 b && nat_le b 57) (cond (nat_le (10 * n + (b - 48)) 255) (Some (10 * n + (b - 48))) None) None
+shifted n b = if nat_le 48 b && nat_le b 57 && nat_le (10 * n + (b - 48)) 255 then Some (10 * n + (b - 48)) else None
 
 -- the digits bs behind the number so far, if there is one
 abbrev pub shifted_on : Option ℕ → List ℕ → Option ℕ

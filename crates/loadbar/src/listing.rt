@@ -1,17 +1,18 @@
 //! The lines that the program prints.
-ghost use Rattle.std.specs.Prelude.{◌≡◌, ◌<◌, ◌++◌, replicate, IfOk, Some, string_bytes, OnOk};
-ghost use Rattle.std.specs.List.{flat_map};
-ghost use Rattle.arbitration.specs.View.{bus};
-ghost use Rattle.loadbar.specs.Listing.{plain, spoken, complaint, owner_text, level_text, or_dash, inhibit_text, owners, bar_text, joined_load, load_text, joined_call, call_line, message_line, refused_line};
+ghost use Rattle.std.specs.Prelude.{◌≡◌, IfOk, Some, string_bytes, encode_utf8};
+ghost use Rattle.std.specs.List.{repeat};
+ghost use Rattle.arbitration.specs.Numbers.{number_of};
+ghost use Rattle.loadbar.specs.Listing.{plain, spoken, complaint, owner_text, levels_text, inhibit_text, bar_text, load_text, call_line, message_line, refused_line};
 
 use crate::scripts::Unreadable;
-use arbitration::{Answer, Contender, Refusal, Segment, State};
+use arbitration::{Answer, Contender, Reason, Refusal, Segment, State};
 use std::alloc::{AllocError, Global};
+use std::error::Error;
 use std::fmt;
 
 /// An answer as it is printed: W1 asks, W0 waits, G and the level granted, K done, R and the number of the refusal.
 #[derive(Clone, Copy)]
-struct Spoken(Result<Answer, Refusal>);
+struct Spoken(Result<Answer, Refusal<Reason>>);
 
 impl fmt::Display for Spoken {
     ghost output = { λ s. Some (spoken (plain s.0)) };
@@ -23,24 +24,29 @@ impl fmt::Display for Spoken {
             Ok(Answer::Granted(level)) => write!(f, "G{level}"),
             Ok(Answer::Done) => write!(f, "K"),
             Err(refusal) => {
-                let number = refusal.reason.number();
+                let number = u8::from(refusal.reason);
                 write!(f, "R{number}")
             }
         }
     }
 }
 
-/// What is wrong with a line that cannot be read.
-fn complain(why: Unreadable) -> &'static str
-    ensures { result.now ≡ complaint why }
-{
-    match why {
-        Unreadable::NoSuchCall => "no such call",
-        Unreadable::NoLevel => "a level from 0 to 255 is wanted",
-        Unreadable::NoAccess => "the access is prioritised or assured",
-        Unreadable::TooManyWords => "more words than the call takes",
+/// Prints what is wrong with the line.
+// By hand: what a derive writes has no `output` to promise.
+impl fmt::Display for Unreadable {
+    ghost output = { λ u. Some (complaint u) };
+
+    fn fmt<W: fmt::Write>(&self, f: &mut fmt::Formatter<W>) -> fmt::Result {
+        match self {
+            Unreadable::NoSuchCall => write!(f, "no such call"),
+            Unreadable::NoLevel => write!(f, "a level from 0 to 255 is wanted"),
+            Unreadable::NoAccess => write!(f, "the access is prioritised or assured"),
+            Unreadable::TooManyWords => write!(f, "more words than the call takes"),
+        }
     }
 }
+
+impl Error for Unreadable {}
 
 /// The level of the owner, or a dash.
 #[derive(Clone, Copy)]
@@ -57,154 +63,157 @@ impl fmt::Display for Owner {
     }
 }
 
-/// A space and the level of a contender, if it is in a state.
-fn level(heap: Global, contender: &Contender, state: State) -> Result<String, AllocError>
-    ensures { IfOk result (λ s. string_bytes s ≡ level_text state contender.now) }
-{
-    if contender.state != state {
-        return Ok(String::new(heap));
-    }
-    let level = contender.level;
-    format!(in heap; " {level}")
-}
-
-/// The levels of the contenders in a state, a space before each.
-fn levels(heap: Global, contenders: &[Contender], state: State) -> Result<String, AllocError>
-    ensures { IfOk result (λ s. string_bytes s ≡ flat_map (level_text state) contenders.now) }
-{
-    let mut text = String::new(heap);
-    for c in contenders {
-        let one = level(heap, c, state)?;
-        text.push_str(one.as_str())?;
-    }
-    Ok(text)
-}
-
-/// A text, or a dash where it is empty.
-fn or_dash(text: &str) -> &str
-    ensures { result.now ≡ or_dash text.now }
-{
-    if text.is_empty() { " -" } else { text }
-}
-
 /// Whether the inhibit is up or down.
-fn up_or_down(inhibit: bool) -> &'static str
-    ensures { result.now ≡ inhibit_text inhibit }
-{
-    if inhibit { "up" } else { "down" }
-}
+#[derive(Clone, Copy)]
+struct Inhibit(bool);
 
-/// Adds a mark to a text a number of times.
-fn push_marks(text: &mut String, mark: char, times: usize) -> Result<(), AllocError>
-    requires { mark < 128 }
-    ensures { OnOk result (string_bytes text.new ≡ string_bytes text.old ++ replicate times mark) }
-{
-    for _ in 0..times {
-        text.push(mark)?;
-    }
-    Ok(())
-}
+impl fmt::Display for Inhibit {
+    ghost output = { λ i. Some (inhibit_text i.0) };
 
-/// How many own the segment.
-fn owners(owner: Option<u8>) -> usize
-    ensures { result ≡ owners owner }
-{
-    match owner {
-        Some(_) => 1,
-        None => 0,
+    fn fmt<W: fmt::Write>(&self, f: &mut fmt::Formatter<W>) -> fmt::Result {
+        if self.0 {
+            write!(f, "up")
+        } else {
+            write!(f, "down")
+        }
     }
 }
 
-/// A mark for each contender: # owns, = asks, - waits, . idles.
-fn bar(heap: Global, segment: &Segment) -> Result<String, AllocError>
-    ensures { IfOk result (λ s. string_bytes s ≡ bar_text (bus segment.now)) }
-{
-    let load = segment.load();
-    let owning = owners(segment.owner());
-    let contenders = segment.contenders().len();
-    let idle = contenders
-        .saturating_sub(owning)
-        .saturating_sub(load.asking)
-        .saturating_sub(load.waiting);
-    let mut text = String::from_str(heap, "[")?;
-    push_marks(&mut text, '#', owning)?;
-    push_marks(&mut text, '=', load.asking)?;
-    push_marks(&mut text, '-', load.waiting)?;
-    push_marks(&mut text, '.', idle)?;
-    text.push(']')?;
-    Ok(text)
+/// A mark, a number of times.
+#[derive(Clone, Copy)]
+struct Marks {
+    mark: char,
+    times: usize,
 }
 
-/// The load from its parts.
-fn join_load(
-    heap: Global,
-    bar: &str,
-    owner: Owner,
-    asks: &str,
-    waits: &str,
-    inhibit: &str,
-) -> Result<String, AllocError>
-    ensures { IfOk result (λ s. string_bytes s ≡ joined_load bar.now owner.0 asks.now waits.now inhibit.now) }
-{
-    format!(in heap; "{bar}  owner {owner}  asks{asks}  waits{waits}  inhibit {inhibit}")
+impl fmt::Display for Marks {
+    ghost output = { λ m. Some (repeat m.times (encode_utf8 m.mark)) };
+
+    fn fmt<W: fmt::Write>(&self, f: &mut fmt::Formatter<W>) -> fmt::Result {
+        let mark = self.mark;
+        // It repeats, and indexes nothing.
+        for _ in 0..self.times {
+            write!(f, "{mark}")?;
+        }
+        Ok(())
+    }
+}
+
+/// The levels of the contenders in a state, a space before each, or a dash where there are none.
+#[derive(Clone, Copy)]
+struct Levels<'a> {
+    contenders: &'a [Contender],
+    state: State,
+}
+
+impl fmt::Display for Levels<'_> {
+    ghost output = { λ l. Some (levels_text l.state l.contenders.now) };
+
+    fn fmt<W: fmt::Write>(&self, f: &mut fmt::Formatter<W>) -> fmt::Result {
+        if !self.contenders.iter().any(|c| c.is(self.state)) {
+            return write!(f, " -");
+        }
+        for contender in self.contenders {
+            if !contender.is(self.state) {
+                continue;
+            }
+            let level = contender.level;
+            write!(f, " {level}")?;
+        }
+        Ok(())
+    }
+}
+
+/// A mark for each contender of a segment: # owns, = asks, - waits, . idles.
+#[derive(Clone, Copy)]
+struct Bar<'a>(&'a Segment);
+
+impl fmt::Display for Bar<'_> {
+    ghost output = { λ b. Some (bar_text b.0.now) };
+
+    fn fmt<W: fmt::Write>(&self, f: &mut fmt::Formatter<W>) -> fmt::Result {
+        let load = self.0.load();
+        let owning = usize::from(self.0.owner().is_some());
+        let contenders = self.0.contenders().len();
+        let idle = contenders
+            .saturating_sub(owning)
+            .saturating_sub(load.asking)
+            .saturating_sub(load.waiting);
+        let owns = Marks {
+            mark: '#',
+            times: owning,
+        };
+        let asks = Marks {
+            mark: '=',
+            times: load.asking,
+        };
+        let waits = Marks {
+            mark: '-',
+            times: load.waiting,
+        };
+        let idles = Marks {
+            mark: '.',
+            times: idle,
+        };
+        write!(f, "[{owns}{asks}{waits}{idles}]")
+    }
 }
 
 /// The load of a segment: the bar, the owner, who asks, who waits, the inhibit.
-fn load(heap: Global, segment: &Segment) -> Result<String, AllocError>
-    ensures { IfOk result (λ s. string_bytes s ≡ load_text (bus segment.now)) }
-{
-    let bar = bar(heap, segment)?;
-    let owner = Owner(segment.owner());
-    let asks = levels(heap, segment.contenders(), State::Asks)?;
-    let waits = levels(heap, segment.contenders(), State::Waits)?;
-    let inhibit = up_or_down(segment.inhibit());
-    join_load(
-        heap,
-        bar.as_str(),
-        owner,
-        or_dash(asks.as_str()),
-        or_dash(waits.as_str()),
-        inhibit,
-    )
-}
+#[derive(Clone, Copy)]
+struct LoadBar<'a>(&'a Segment);
 
-/// The line of a call from its parts.
-fn join_call(heap: Global, number: usize, spoken: Spoken, load: &str) -> Result<String, AllocError>
-    ensures { IfOk result (λ s. string_bytes s ≡ joined_call number (plain spoken.0) load.now) }
-{
-    format!(in heap; "{number} {spoken}  {load}\n")
+impl fmt::Display for LoadBar<'_> {
+    ghost output = { λ l. Some (load_text l.0.now) };
+
+    fn fmt<W: fmt::Write>(&self, f: &mut fmt::Formatter<W>) -> fmt::Result {
+        let bar = Bar(self.0);
+        let owner = Owner(self.0.owner());
+        let asks = Levels {
+            contenders: self.0.contenders(),
+            state: State::Asks,
+        };
+        let waits = Levels {
+            contenders: self.0.contenders(),
+            state: State::Waits,
+        };
+        let inhibit = Inhibit(self.0.inhibit());
+        write!(
+            f,
+            "{bar}  owner {owner}  asks{asks}  waits{waits}  inhibit {inhibit}"
+        )
+    }
 }
 
 /// The line of a call: its number, its answer, and the load of the segment after it.
 pub fn call_line(
     heap: Global,
     number: usize,
-    answer: Result<Answer, Refusal>,
+    answer: Result<Answer, Refusal<Reason>>,
     segment: &Segment,
 ) -> Result<String, AllocError>
-    ensures { IfOk result (λ s. string_bytes s ≡ call_line number (plain answer) (bus segment.now)) }
+    ensures { IfOk result (λ s. string_bytes s ≡ call_line number (plain answer) segment.now) }
 {
-    let load = load(heap, segment)?;
-    join_call(heap, number, Spoken(answer), load.as_str())
-}
-
-/// The line of a message on a line of the script.
-fn message(heap: Global, line: usize, text: &str) -> Result<String, AllocError>
-    ensures { IfOk result (λ s. string_bytes s ≡ message_line line text.now) }
-{
-    format!(in heap; "line {line}: {text}\n")
+    let spoken = Spoken(answer);
+    let load = LoadBar(segment);
+    format!(in heap; "{number} {spoken}  {load}\n")
 }
 
 /// The message on a line that cannot be read.
 pub fn unreadable_line(heap: Global, line: usize, why: Unreadable) -> Result<String, AllocError>
     ensures { IfOk result (λ s. string_bytes s ≡ message_line line (complaint why)) }
 {
-    message(heap, line, complain(why))
+    format!(in heap; "line {line}: {why}\n")
 }
 
-/// The message on a contender that is refused, by the number of the refusal.
-pub fn refused_line(heap: Global, line: usize, number: u8) -> Result<String, AllocError>
-    ensures { IfOk result (λ s. string_bytes s ≡ refused_line line number) }
+/// The message on a contender that is refused, with the number of the refusal.
+pub fn refused_line(
+    heap: Global,
+    line: usize,
+    refusal: Refusal<Reason>,
+) -> Result<String, AllocError>
+    ensures { IfOk result (λ s. string_bytes s ≡ refused_line line (number_of refusal.reason)) }
 {
-    format!(in heap; "line {line}: contender refused, R{number}\n")
+    let refused = Spoken(Err(refusal));
+    format!(in heap; "line {line}: contender refused, {refused}\n")
 }

@@ -1,10 +1,9 @@
 //! A script, line by line, on one segment.
 ghost use Rattle.std.specs.Prelude.{◌≡◌, IfOk, string_bytes, OnOk};
 ghost use Rattle.loadbar.specs.Runs.{start, with_contender, contender_text, with_call, call_text, taken_in, printed, listing};
-ghost use Rattle.loadbar.specs.View.{progress};
 
 use crate::scripts::Line;
-use crate::{listing, scripts, words};
+use crate::{listing, scripts};
 use arbitration::{Access, Event, Segment, SetupFault};
 use std::alloc::{AllocError, Global};
 
@@ -12,6 +11,7 @@ use std::alloc::{AllocError, Global};
 const SEGMENT: u8 = 1;
 
 /// How far a script has come: its segment, the lines read and the calls made.
+// The allocator is handed to each call and not kept, so that the definitions can speak of a run by itself.
 #[derive(Drop)]
 struct Run {
     segment: Segment,
@@ -22,7 +22,7 @@ struct Run {
 impl Run {
     /// Before the first line.
     fn new(heap: Global) -> Run
-        ensures { progress result ≡ start }
+        ensures { result ≡ start }
     {
         Run {
             segment: Segment::new(heap, SEGMENT),
@@ -33,26 +33,20 @@ impl Run {
 
     /// Adds a contender; answers the message if it is refused.
     fn add(&mut self, heap: Global, level: u8, access: Access) -> Result<String, AllocError>
-        ensures text { IfOk result (λ s. string_bytes s ≡ contender_text level access (progress self.old)) }
-        ensures after { OnOk result (progress self.new ≡ with_contender level access (progress self.old)) }
+        ensures text { IfOk result (λ s. string_bytes s ≡ contender_text level access self.old) }
+        ensures after { OnOk result (self.new ≡ with_contender level access self.old) }
     {
         match self.segment.add_contender(level, access) {
             Ok(()) => Ok(String::new(heap)),
-            Err(fault) => match fault {
-                SetupFault::Refused(refusal) => listing::refused_line(
-                    heap,
-                    self.lines,
-                    refusal.reason.number(),
-                ),
-                SetupFault::NoMemory => Err(AllocError),
-            },
+            Err(SetupFault::Refused(refusal)) => listing::refused_line(heap, self.lines, refusal),
+            Err(SetupFault::NoMemory(error)) => Err(error),
         }
     }
 
     /// Makes a call; answers its line.
     fn call(&mut self, heap: Global, event: Event) -> Result<String, AllocError>
-        ensures text { IfOk result (λ s. string_bytes s ≡ call_text event (progress self.old)) }
-        ensures after { progress self.new ≡ with_call event (progress self.old) }
+        ensures text { IfOk result (λ s. string_bytes s ≡ call_text event self.old) }
+        ensures after { self.new ≡ with_call event self.old }
     {
         self.calls = self.calls.saturating_add(1);
         let answer = self.segment.apply(event);
@@ -61,16 +55,14 @@ impl Run {
 
     /// Reads one line and does what it says; answers what is printed for it.
     fn take_in(&mut self, heap: Global, line: &[u8]) -> Result<String, AllocError>
-        ensures text { IfOk result (λ s. string_bytes s ≡ printed line.now (progress self.old)) }
-        ensures after { OnOk result (progress self.new ≡ taken_in line.now (progress self.old)) }
+        ensures text { IfOk result (λ s. string_bytes s ≡ printed line.now self.old) }
+        ensures after { OnOk result (self.new ≡ taken_in line.now self.old) }
     {
         self.lines = self.lines.saturating_add(1);
         match scripts::read_line(line) {
-            Ok(said) => match said {
-                Line::Blank => Ok(String::new(heap)),
-                Line::Contender(level, access) => self.add(heap, level, access),
-                Line::Call(event) => self.call(heap, event),
-            },
+            Ok(Line::Blank) => Ok(String::new(heap)),
+            Ok(Line::Contender(level, access)) => self.add(heap, level, access),
+            Ok(Line::Call(event)) => self.call(heap, event),
             Err(why) => listing::unreadable_line(heap, self.lines, why),
         }
     }
@@ -82,12 +74,9 @@ pub fn run_script(heap: Global, script: &[u8]) -> Result<String, AllocError>
 {
     let mut run = Run::new(heap);
     let mut text = String::new(heap);
-    let mut rest = script;
-    while !rest.is_empty() {
-        let (line, following) = words::split_line(rest);
+    for line in script.split(|&byte| byte == b'\n') {
         let printed = run.take_in(heap, line)?;
         text.push_str(printed.as_str())?;
-        rest = following;
     }
     Ok(text)
 }

@@ -1,13 +1,15 @@
 //! What a line of a script says.
 ghost use Rattle.std.specs.Prelude.{◌≡◌};
-ghost use Rattle.loadbar.specs.Scripts.{verb_of, access_of, named, sole_level, contender, completed, read};
+ghost use Rattle.std.specs.Option.{ok_or, option_copied};
+ghost use Rattle.loadbar.specs.Words.{first_word};
+ghost use Rattle.loadbar.specs.Scripts.{access_of, named, if_last, sole_level, contender, completed, read};
 
 use crate::words;
-use crate::words::Class;
+use crate::words::Words;
 use arbitration::{Access, Event};
 
 /// A line that can be read: a blank one, a contender of the segment, or a call.
-#[derive(Clone, Copy)]
+#[derive(Clone, Copy, PartialEq, Eq, Debug)]
 pub enum Line {
     Blank,
     Contender(u8, Access),
@@ -15,7 +17,7 @@ pub enum Line {
 }
 
 /// Why a line cannot be read.
-#[derive(Clone, Copy)]
+#[derive(Clone, Copy, PartialEq, Eq, Debug)]
 pub enum Unreadable {
     NoSuchCall,
     NoLevel,
@@ -23,96 +25,70 @@ pub enum Unreadable {
     TooManyWords,
 }
 
-/// The first word of a line that is not blank.
-#[derive(Clone, Copy)]
-enum Verb {
-    Contender,
-    Wish,
-    Withdraw,
-    Arbitrate,
-    Release,
-}
-
-fn read_verb(word: &[u8]) -> Option<Verb>
-    ensures { result ≡ verb_of word.now }
-{
-    if words::is_word(word, b"contender") {
-        Some(Verb::Contender)
-    } else if words::is_word(word, b"wish") {
-        Some(Verb::Wish)
-    } else if words::is_word(word, b"withdraw") {
-        Some(Verb::Withdraw)
-    } else if words::is_word(word, b"arbitrate") {
-        Some(Verb::Arbitrate)
-    } else if words::is_word(word, b"release") {
-        Some(Verb::Release)
-    } else {
-        None
-    }
-}
-
+/// The access that a word names.
+// No `TryFrom`: the trait and the type are both other crates'.
 fn read_access(word: &[u8]) -> Option<Access>
     ensures { result ≡ access_of word.now }
 {
-    if words::is_word(word, b"prioritised") {
-        Some(Access::Prioritised)
-    } else if words::is_word(word, b"assured") {
-        Some(Access::Assured)
-    } else {
-        None
+    match word {
+        b"prioritised" => Some(Access::Prioritised),
+        b"assured" => Some(Access::Assured),
+        _ => None,
     }
 }
 
-/// The level that a call names.
-fn read_level(word: &[u8]) -> Result<u8, Unreadable>
-    ensures { result ≡ named word.now }
-{
-    match words::read_number(word) {
-        Some(level) => Ok(level),
-        None => Err(Unreadable::NoLevel),
-    }
-}
-
-/// What a verb says with the words behind it, of which there are at most three.
-fn complete(verb: Verb, second: &[u8], third: &[u8], fourth: &[u8]) -> Result<Line, Unreadable>
-    ensures { result ≡ completed verb second.now third.now fourth.now }
-{
-    match verb {
-        Verb::Contender => read_contender(second, third, fourth),
-        Verb::Arbitrate => {
-            if second.is_empty() {
-                Ok(Line::Call(Event::Arbitrate))
-            } else {
-                Err(Unreadable::TooManyWords)
-            }
+impl Words<'_> {
+    /// Refuses any further word.
+    fn end(mut self) -> Result<(), Unreadable>
+        ensures { result ≡ if_last (first_word self.entry) (Ok tt) }
+    {
+        match self.next() {
+            None => Ok(()),
+            Some(_) => Err(Unreadable::TooManyWords),
         }
-        Verb::Wish => Ok(Line::Call(Event::Wish(read_sole_level(second, third)?))),
-        Verb::Withdraw => Ok(Line::Call(Event::Withdraw(read_sole_level(second, third)?))),
-        Verb::Release => Ok(Line::Call(Event::Release(read_sole_level(second, third)?))),
     }
 }
 
-/// The level that a call names, where nothing follows it.
-fn read_sole_level(word: &[u8], next: &[u8]) -> Result<u8, Unreadable>
-    ensures { result ≡ sole_level word.now next.now }
+/// The level that a word names. A word that is missing names none.
+fn read_level(word: Option<&[u8]>) -> Result<u8, Unreadable>
+    ensures { result ≡ named (option_copied word.entry) }
 {
-    if !next.is_empty() {
-        return Err(Unreadable::TooManyWords);
-    }
-    read_level(word)
+    word.and_then(words::read_number).ok_or(Unreadable::NoLevel)
+}
+
+/// The level that is the last word of a line.
+fn read_sole_level(mut words: Words) -> Result<u8, Unreadable>
+    ensures { result ≡ sole_level words.entry }
+{
+    let level = words.next();
+    words.end()?;
+    read_level(level)
 }
 
 /// A contender: its level and its access, where nothing follows them.
-fn read_contender(level: &[u8], access: &[u8], next: &[u8]) -> Result<Line, Unreadable>
-    ensures { result ≡ contender level.now access.now next.now }
+fn read_contender(mut words: Words) -> Result<Line, Unreadable>
+    ensures { result ≡ contender words.entry }
 {
-    if !next.is_empty() {
-        return Err(Unreadable::TooManyWords);
-    }
+    let level = words.next();
+    let access = words.next();
+    words.end()?;
     let level = read_level(level)?;
-    match read_access(access) {
-        Some(access) => Ok(Line::Contender(level, access)),
-        None => Err(Unreadable::NoAccess),
+    let access = access.and_then(read_access).ok_or(Unreadable::NoAccess)?;
+    Ok(Line::Contender(level, access))
+}
+
+/// What the first word of a line says with those behind it.
+// Three arms have one shape: a table of the events' constructors would be no plainer.
+fn complete(verb: &[u8], words: Words) -> Result<Line, Unreadable>
+    ensures { result ≡ completed verb.now words.entry }
+{
+    match verb {
+        b"contender" => read_contender(words),
+        b"wish" => read_sole_level(words).map(Event::Wish).map(Line::Call),
+        b"withdraw" => read_sole_level(words).map(Event::Withdraw).map(Line::Call),
+        b"arbitrate" => words.end().map(|()| Line::Call(Event::Arbitrate)),
+        b"release" => read_sole_level(words).map(Event::Release).map(Line::Call),
+        _ => Err(Unreadable::NoSuchCall),
     }
 }
 
@@ -120,17 +96,10 @@ fn read_contender(level: &[u8], access: &[u8], next: &[u8]) -> Result<Line, Unre
 pub fn read_line(line: &[u8]) -> Result<Line, Unreadable>
     ensures { result ≡ read line.now }
 {
-    let code = words::run_length(line, Class::Code);
-    let (text, _) = line.split_at(code);
-    let (first, text) = words::split_word(text);
-    let (second, text) = words::split_word(text);
-    let (third, text) = words::split_word(text);
-    let (fourth, _) = words::split_word(text);
-    if first.is_empty() {
-        return Ok(Line::Blank);
+    let (text, _) = words::cut_before(line, |byte| byte == b'#');
+    let mut words = Words::new(text);
+    match words.next() {
+        None => Ok(Line::Blank),
+        Some(verb) => complete(verb, words),
     }
-    let Some(verb) = read_verb(first) else {
-        return Err(Unreadable::NoSuchCall);
-    };
-    complete(verb, second, third, fourth)
 }

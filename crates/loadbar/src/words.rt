@@ -1,99 +1,108 @@
-//! Cuts the bytes of a script into lines and words.
-ghost use Rattle.std.specs.Prelude.{◌≡◌, ◌≤◌, length};
-ghost use Rattle.std.specs.List.{prefix_len};
-ghost use Rattle.std.specs.Str.{bytes_eq};
-ghost use Rattle.loadbar.specs.Words.{in_class, word, rest, line, following, shifted, number};
+//! Cuts a line of a script into words.
+ghost use Rattle.std.specs.Prelude.{◌≡◌, ◌≤◌, ℕ, Bool, length};
+ghost use Rattle.std.specs.List.{before_first, position_or_len};
+ghost use Rattle.std.specs.Iterator.{at_most};
+ghost use Rattle.std.specs.Option.{option_copied};
+ghost use Rattle.loadbar.specs.Words.{Computes, from, blank, word, first_word, rest, shifted, number};
 
-/// The bytes that a run of bytes is made of.
-#[derive(Clone, Copy)]
-pub enum Class {
-    /// Spaces, tabs and carriage returns.
-    Blank,
-    /// All that is not blank.
-    Ink,
-    /// All that does not begin a comment.
-    Code,
-    /// All that does not end a line.
-    Line,
-}
+use std::marker::Model;
 
-fn belongs(byte: u8, class: Class) -> bool
-    ensures { result ≡ in_class class byte }
-{
-    match class {
-        Class::Blank => byte == b' ' || byte == b'\t' || byte == b'\r',
-        Class::Ink => byte != b' ' && byte != b'\t' && byte != b'\r',
-        Class::Code => byte != b'#',
-        Class::Line => byte != b'\n',
-    }
-}
-
-/// How many bytes at the front of a text are of a class.
-pub fn run_length(text: &[u8], class: Class) -> usize
-    ensures length { result ≡ prefix_len (in_class class) text.now }
+/// How many bytes stand before the first one that passes a test; all of them where none does.
+fn length_before<P: Fn(u8) -> bool>(text: &[u8], stops: P) -> usize
+    requires { P.IsAlwaysCallable stops }
+    ensures place { (p : ℕ → Bool) → Computes (P.post stops) p
+        → result ≡ position_or_len p text.now }
     ensures within { result ≤ length text.now }
 {
-    for i in 0..text.len() {
-        if !belongs(text[i], class) {
-            return i;
-        }
-    }
-    text.len()
+    text.iter()
+        .position(|&byte| stops(byte))
+        .unwrap_or(text.len())
+}
+
+/// A text up to its first byte that passes a test, and the text from that byte on.
+pub fn cut_before<P: Fn(u8) -> bool>(text: &[u8], stops: P) -> (&[u8], &[u8])
+    requires { P.IsAlwaysCallable stops }
+    ensures before { (p : ℕ → Bool) → Computes (P.post stops) p
+        → result.0.now ≡ before_first p text.now }
+    ensures from { (p : ℕ → Bool) → Computes (P.post stops) p
+        → result.1.now ≡ from p text.now }
+{
+    text.split_at(length_before(text, stops))
+}
+
+/// Whether a byte parts words: a space, a tab or a carriage return.
+fn is_blank(byte: u8) -> bool
+    ensures { result ≡ blank byte }
+{
+    matches!(byte, b' ' | b'\t' | b'\r')
 }
 
 /// The first word of a text, and what follows it. The word is empty where the text is blank.
-pub fn split_word(text: &[u8]) -> (&[u8], &[u8])
+fn split_word(text: &[u8]) -> (&[u8], &[u8])
     ensures word { result.0.now ≡ word text.now }
     ensures rest { result.1.now ≡ rest text.now }
 {
-    let blanks = run_length(text, Class::Blank);
-    let (_, inked) = text.split_at(blanks);
-    let length = run_length(inked, Class::Ink);
-    inked.split_at(length)
+    let (_, inked) = cut_before(text, |byte| !is_blank(byte));
+    cut_before(inked, is_blank)
 }
 
-/// The first line of a text, without its end, and the lines that follow it.
-pub fn split_line(text: &[u8]) -> (&[u8], &[u8])
-    ensures line { result.0.now ≡ line text.now }
-    ensures following { result.1.now ≡ following text.now }
-{
-    let length = run_length(text, Class::Line);
-    let (line, end) = text.split_at(length);
-    let (_, following) = end.split_at(end.len().min(1));
-    (line, following)
+/// The words of a text, one after the other.
+// An iterator of our own: a chain of `split` and `filter` has closures in its type, which no contract here could name.
+#[derive(Drop)]
+pub struct Words<'a> {
+    rest: &'a [u8],
 }
 
-/// Whether a word is the given one.
-pub fn is_word(word: &[u8], name: &[u8]) -> bool
-    ensures { result ≡ bytes_eq word.now name.now }
-{
-    word == name
+/// A contract sees the text that is left.
+impl<'a> Model for Words<'a> {
+    ghost use Rattle.std.specs.Prelude.{List, ℕ};
+
+    ghost Value = { List ℕ };
+
+    ghost view = { λ w. w.rest.now };
+}
+
+impl<'a> Words<'a> {
+    /// All words of a text.
+    pub fn new(text: &'a [u8]) -> Words<'a>
+        ensures { result ≡ text.now }
+    {
+        Words { rest: text }
+    }
+}
+
+impl<'a> Iterator for Words<'a> {
+    type Item = &'a [u8];
+
+    ghost next_gives = { λ s r t. (option_copied r ≡ first_word s) × (t ≡ rest s) };
+
+    ghost remaining = { λ s. at_most (length s) };
+
+    fn next(&mut self) -> Option<&'a [u8]> {
+        let (word, rest) = split_word(self.rest);
+        self.rest = rest;
+        (!word.is_empty()).then_some(word)
+    }
 }
 
 /// The number from 0 to 255 that a word writes in decimal digits.
+// No `parse`: it takes a plus sign, and it wants text.
 pub fn read_number(word: &[u8]) -> Option<u8>
     ensures { result ≡ number word.now }
 {
     if word.is_empty() {
         return None;
     }
-    let mut value: u8 = 0;
-    for byte in word {
-        value = shift_in(value, *byte)?;
-    }
-    Some(value)
+    word.iter()
+        .try_fold(0, |value, &byte| shift_in(value, byte))
 }
 
 /// The number that a value becomes with one digit more behind it.
 fn shift_in(value: u8, byte: u8) -> Option<u8>
     ensures { result ≡ shifted value byte }
 {
-    if byte < b'0' || byte > b'9' {
-        return None;
+    match byte {
+        b'0'..=b'9' => value.checked_mul(10)?.checked_add(byte - b'0'),
+        _ => None,
     }
-    let wide = 10 * value as u16 + (byte - b'0') as u16;
-    if wide > 255 {
-        return None;
-    }
-    Some(wide as u8)
 }

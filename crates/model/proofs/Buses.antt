@@ -1,6 +1,6 @@
 -- One bus: who owns it after an event, who wished before one, and how a wish ends.
-use Rattle.std.proofs.Common.{◌≡◌, ℕ, ◌+◌, ◌≤◌, Bool, true, false, cond, ◌||◌, List, [], ◌∷◌, is_ok, Some, None, Err, sym, refl, ap, ◌∙◌, subst, arith}
-use Rattle.std.proofs.lemmas.Bool.{both_ways, and_parts, cond_both, eqb-true}
+use Rattle.std.proofs.Common.{◌≡◌, ℕ, ◌+◌, ◌≤◌, Bool, true, false, cond, ◌||◌, List, [], ◌∷◌, is_ok, Some, None, Err, sym, refl, ap, ◌∙◌, subst, arith, find}
+use Rattle.std.proofs.lemmas.Bool.{both_ways, and_parts, cond_both, eqb-true, true≢false}
 use Rattle.arbitration.specs.declared.contenders.Access.{Access}
 use Rattle.arbitration.specs.declared.contenders.State.{State}
 use Rattle.arbitration.specs.declared.contenders.State.TheVariants.{Idle, Waits, Asks, Owns}
@@ -10,10 +10,11 @@ use Rattle.arbitration.specs.declared.contenders.Contender.{Contender}
 use Rattle.arbitration.specs.declared.replies.Event.{Event}
 use Rattle.arbitration.specs.declared.replies.Event.TheVariants.{Wish, Withdraw, Arbitrate, Release}
 use Rattle.arbitration.specs.Waiting.{granted_by}
-use Rattle.arbitration.specs.Lists.{any, count, first, holds}
+use Rattle.std.specs.List.{list_any}
+use Rattle.arbitration.specs.Lists.{count, holds}
 use Rattle.arbitration.specs.Contenders.{same_state, allows, at_level, asks, owns, wishes, put, next, moved}
 use Rattle.arbitration.specs.Rules.{Bus, its, empty, settled, made, winner, asks_as, granted, arbitrated, by_winner, move_answer, answer, after_move, after}
-use Rattle.arbitration.proofs.Changing.{absurdly, one_if}
+use Rattle.arbitration.proofs.Changing.{one_if}
 use Rattle.arbitration.proofs.Keeping.{SoundBus}
 use Rattle.arbitration.proofs.Potential.{its_settled}
 use Rattle.arbitration.proofs.States.{woken_owns, woken_wishes}
@@ -53,9 +54,9 @@ move_keeps m k l b h o =
 
 -- a move that an owner may not make leaves it
 owner_stays : (m : Move) → allows m Owns ≡ false → (a : Access) (up : Bool) (s : State) → same_state Owns s ≡ true → same_state Owns (next m a up s) ≡ true
-owner_stays m h a up Idle e = absurdly (sym e)
-owner_stays m h a up Waits e = absurdly (sym e)
-owner_stays m h a up Asks e = absurdly (sym e)
+owner_stays m h a up Idle e = absurd (true≢false (sym e))
+owner_stays m h a up Waits e = absurd (true≢false (sym e))
+owner_stays m h a up Asks e = absurd (true≢false (sym e))
 owner_stays m h a up Owns e = rw h
 
 pub wish_keeps : (k l : ℕ) (b : Bus) → its l owns b ≡ true → its l owns (after (Wish k) b) ≡ true
@@ -74,10 +75,10 @@ pub release_keeps : (k l : ℕ) (b : Bus) → (l ≡ k → ⊥) → its l owns b
 release_keeps k l b ne = move_keeps move.Release k l b (λ d p q _. absurd (ne (sym (eqb-true d.level l q) ∙ eqb-true d.level k p)))
 
 -- ---- at most one owns
-pub first_counts : {A : Type 0} (p q : A → Bool) (xs : List A) → holds q (first p xs) ≡ true → 1 ≤ count q xs
-first_counts p q [] e = absurdly (sym e)
+pub first_counts : {A : Type 0} (p q : A → Bool) (xs : List A) → holds q (find p xs) ≡ true → 1 ≤ count q xs
+first_counts p q [] e = absurd (true≢false (sym e))
 first_counts p q (x ∷ xs) e =
-    (elim (p x) as (λ t. holds q (cond t (Some x) (first p xs)) ≡ true → 1 ≤ one_if (q x) + count q xs) [
+    (elim (p x) as (λ t. holds q (cond t (Some x) (find p xs)) ≡ true → 1 ≤ one_if (q x) + count q xs) [
       | true ↦ λ a. rw a (omega arith)
       | false ↦ λ a. omega (arith, first_counts p q xs a)
     ]) e
@@ -85,17 +86,17 @@ first_counts p q (x ∷ xs) e =
 pub one_owner : (l m : ℕ) (b : Bus) → SoundBus b → its l owns b ≡ true → its m owns b ≡ true → l ≡ m
 one_owner l m b h = go b.contenders h.3
   where
-    go : (ds : List Contender) → count owns ds ≤ 1 → holds owns (first (at_level l) ds) ≡ true → holds owns (first (at_level m) ds) ≡ true → l ≡ m
-    go [] few = λ p q. absurdly (sym p)
+    go : (ds : List Contender) → count owns ds ≤ 1 → holds owns (find (at_level l) ds) ≡ true → holds owns (find (at_level m) ds) ≡ true → l ≡ m
+    go [] few = λ p q. absurd (true≢false (sym p))
     go (d ∷ ds) few =
-        let alone : owns d ≡ true → (x : ℕ) → holds owns (first (at_level x) ds) ≡ true → ⊥ = λ o x a.
+        let alone : owns d ≡ true → (x : ℕ) → holds owns (find (at_level x) ds) ≡ true → ⊥ = λ o x a.
         let z : 1 + count owns ds ≤ 1 = subst (λ t. one_if t + count owns ds ≤ 1) o few in omega (arith, first_counts (at_level x) owns ds a) in
-        (elim (at_level l d) as (λ t. at_level l d ≡ t → holds owns (cond t (Some d) (first (at_level l) ds)) ≡ true → holds owns (first (at_level m) (d ∷ ds)) ≡ true → l ≡ m) [
-          | true ↦ λ e p. (elim (at_level m d) as (λ t. at_level m d ≡ t → holds owns (cond t (Some d) (first (at_level m) ds)) ≡ true → l ≡ m) [
+        (elim (at_level l d) as (λ t. at_level l d ≡ t → holds owns (cond t (Some d) (find (at_level l) ds)) ≡ true → holds owns (find (at_level m) (d ∷ ds)) ≡ true → l ≡ m) [
+          | true ↦ λ e p. (elim (at_level m d) as (λ t. at_level m d ≡ t → holds owns (cond t (Some d) (find (at_level m) ds)) ≡ true → l ≡ m) [
             | true ↦ λ q _. sym (eqb-true d.level l e) ∙ eqb-true d.level m q
             | false ↦ λ _ q. absurd (alone p m q)
           ]) refl
-          | false ↦ λ _ p. (elim (at_level m d) as (λ t. at_level m d ≡ t → holds owns (cond t (Some d) (first (at_level m) ds)) ≡ true → l ≡ m) [
+          | false ↦ λ _ p. (elim (at_level m d) as (λ t. at_level m d ≡ t → holds owns (cond t (Some d) (find (at_level m) ds)) ≡ true → l ≡ m) [
             | true ↦ λ _ q. absurd (alone q l p)
             | false ↦ λ _ q. go ds (omega arith) p q
           ]) refl
@@ -107,7 +108,7 @@ is_wishing s = same_state Asks s || same_state Waits s
 
 -- where a move leads to idle or nowhere
 idle_or_same : (t : Bool) (s : State) → is_wishing (cond t Idle s) ≡ true → is_wishing s ≡ true
-idle_or_same true s e = absurdly (sym e)
+idle_or_same true s e = absurd (true≢false (sym e))
 idle_or_same false s e = e
 
 wished_before_move : (m : Move) (k x : ℕ) (b : Bus) → ((d : Contender) → wishes (moved m b.inhibit d) ≡ true → wishes d ≡ true) → its x wishes (after_move m k b) ≡ true → its x wishes b ≡ true
@@ -124,14 +125,14 @@ wished_before_release k x b = wished_before_move move.Release k x b (λ d. idle_
 pub wished_before_arbitrate : (x : ℕ) (b : Bus) → its x wishes (after Arbitrate b) ≡ true → its x wishes b ≡ true
 wished_before_arbitrate x b =
     arbitrated_cases (λ y. its x wishes y ≡ true → its x wishes b ≡ true) b (λ w. w)
-    (λ v w. first_was (at_level x) (asks_as v) (put Owns) (λ d. refl) wishes (λ d q. absurdly (sym q)) b.contenders (sym (its_settled x wishes (λ d. woken_wishes d.state) (granted v b)) ∙ w))
+    (λ v w. first_was (at_level x) (asks_as v) (put Owns) (λ d. refl) wishes (λ d q. absurd (true≢false (sym q))) b.contenders (sym (its_settled x wishes (λ d. woken_wishes d.state) (granted v b)) ∙ w))
 
 -- ---- how a wish goes on, and how an arbitration ends it
 wisher_stays : (a : Access) (up : Bool) (s : State) → is_wishing s ≡ true → is_wishing (next move.Wish a up s) ≡ true
-wisher_stays a up Idle e = absurdly (sym e)
+wisher_stays a up Idle e = absurd (true≢false (sym e))
 wisher_stays a up Waits e = refl
 wisher_stays a up Asks e = refl
-wisher_stays a up Owns e = absurdly (sym e)
+wisher_stays a up Owns e = absurd (true≢false (sym e))
 
 pub wish_keeps_wishing : (k x : ℕ) (b : Bus) → its x wishes b ≡ true → its x wishes (after (Wish k) b) ≡ true
 wish_keeps_wishing k x b w =
@@ -149,7 +150,7 @@ granted_other x v b ne w =
 -- so an arbitration that ends the wish of x is won by x
 pub wins_itself : (x : ℕ) (b : Bus) → its x wishes b ≡ true → its x wishes (after Arbitrate b) ≡ false → granted_by (answer Arbitrate b) ≡ x ∷ []
 wins_itself x b w =
-    elim (any owns b.contenders) as (λ t. its x wishes (cond (is_ok (cond t (Err 22) (by_winner (winner b.contenders)))) (arbitrated (winner b.contenders) b) b) ≡ false →
+    elim (list_any owns b.contenders) as (λ t. its x wishes (cond (is_ok (cond t (Err 22) (by_winner (winner b.contenders)))) (arbitrated (winner b.contenders) b) b) ≡ false →
     granted_by (cond t (Err 22) (by_winner (winner b.contenders))) ≡ x ∷ []) [
       | true ↦ λ e. absurd (both_ways (its x wishes b) e w)
       | false ↦ elim (winner b.contenders) as (λ o. its x wishes (cond (is_ok (by_winner o)) (arbitrated o b) b) ≡ false → granted_by (by_winner o) ≡ x ∷ []) [

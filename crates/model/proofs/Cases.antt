@@ -1,9 +1,10 @@
 -- The branches of a call: refused, or not, with what then holds.
 use Rattle.std.proofs.Common.{◌≡◌, ℕ, Bool, true, false, not, eqb, ltb, List, [], ◌∷◌, is_some, Some, None, Option, refl}
+use Rattle.std.proofs.lemmas.Option.{none-some}
 use Rattle.std.proofs.lemmas.Bool.{cond_both, eqb-true, not-false}
 use Rattle.arbitration.specs.declared.contenders.Contender.{Contender}
 use Rattle.arbitration.specs.declared.replies.Event.TheVariants as event
-use Rattle.arbitration.specs.Lists.{any}
+use Rattle.std.specs.List.{list_any}
 use Rattle.arbitration.specs.Contenders.{idle, owns, wishes}
 use Rattle.arbitration.specs.Rules.{its, winner}
 use Rattle.model.specs.declared.calls.Call.{Call}
@@ -21,7 +22,7 @@ use Rattle.model.specs.Addresses.{Request, group_of, request, is_meant, found, l
 use Rattle.model.specs.Cycles.{as_outcome, data_cycle}
 use Rattle.model.specs.Calls.{is_master, is_owner, is_owned, is_linked, on_segment, by_master, by_owner, granting, is_begun_elsewhere, data_call, no_flags, step}
 use Rattle.model.specs.Singles.{named}
-use Rattle.model.proofs.Basics.{none_not_some, opt_both}
+use Rattle.model.proofs.Basics.{opt_both}
 
 -- a master that owns its segment
 pub record Owner (n l : ℕ) (c : Crate) : Type 0 where
@@ -61,7 +62,7 @@ pub record Branches (c : Crate) (P : Call → Outcome → Type 0) : Type 0 where
   pub refuses : (x : Call) (r : Reason) → P x (refused r (named x) c)
   pub wishes : (n l : ℕ) (a : Answer) → P (Wish n l) (answered a (happens n (event.Wish l) c))
   pub withdraws : (n l : ℕ) → P (Withdraw n l) (answered Done (happens n (event.Withdraw l) c))
-  pub arbitrates : (n : ℕ) (w : Contender) → any owns (bus_at n c).contenders ≡ false → winner (bus_at n c).contenders ≡ Some w → P (Arbitrate n) (granting n c w)
+  pub arbitrates : (n : ℕ) (w : Contender) → list_any owns (bus_at n c).contenders ≡ false → winner (bus_at n c).contenders ≡ Some w → P (Arbitrate n) (granting n c w)
   pub addresses : (n l ms ad : ℕ) → Owner n l c → is_some (link_at n c) ≡ false → P (Address n l ms ad) (addressed (request n ms ad) c)
   pub cycles : (n l ms : ℕ) (read : Bool) (w : ℕ) (k : Link) → Owner n l c → link_at n c ≡ Some k → P (Data n l ms read w) (as_outcome (data_cycle ms read w c k))
   pub ends : (n l : ℕ) (o : Operation) → Owner n l c → operation_at n c ≡ Some o → P (End n l) (answered Done (dropped n o.group c))
@@ -107,7 +108,7 @@ module _ (c : Crate) (P : Call → Outcome → Type 0) (w : Branches c P) where
 pub found_parts : (r : Request) (m k : ℕ) (c : Crate) → found r m c ≡ Some k → (m ≡ r.group) × (index_of (is_meant m r.ad) c.slots ≡ Some k)
 found_parts r m k c =
     cond_both (eqb m r.group) (index_of (is_meant m r.ad) c.slots) None (λ o. o ≡ Some k → (m ≡ r.group) × (index_of (is_meant m r.ad) c.slots ≡ Some k))
-    (λ e h. (eqb-true m r.group e, h)) (λ _ h. none_not_some k h)
+    (λ e h. (eqb-true m r.group e, h)) (λ _ h. absurd (none-some k h))
 
 pub arrived_cases : (P : Outcome → Type 0) (r : Request) (m : ℕ) (c : Crate) →
     P (failure r m c) → ((k : ℕ) → found r m c ≡ Some k → P (linked r k c)) → P (arrived r m c)

@@ -1,9 +1,9 @@
 -- Every call leaves a standing link and its module alone, but for its own master's.
 use Rattle.std.proofs.Common.{◌≡◌, ℕ, Bool, true, false, ◌&&◌, ◌||◌, eqb, List, [], ◌∷◌, is_some, Some, None, Option, sym, refl, ap, ◌∙◌, subst}
 use Rattle.std.proofs.lemmas.Bool.{cond-false, both_ways, eq-eqb, ne_eqb, and_from, or_parts, or_right}
-use Rattle.std.specs.List.{slice_get}
+use Rattle.std.specs.List.{slice_get, list_any}
 use Rattle.arbitration.specs.declared.replies.Event.TheVariants as event
-use Rattle.arbitration.specs.Lists.{any, holds}
+use Rattle.arbitration.specs.Lists.{holds}
 use Rattle.model.specs.declared.calls.Call.{Call}
 use Rattle.model.specs.declared.cells.Space.{Space}
 use Rattle.model.specs.declared.parts.Interconnect.{Interconnect}
@@ -212,14 +212,14 @@ module _ (W : List Interconnect) (S : List ℕ) (plan : Plan W) where
   calls_linked : (n l : ℕ) (k : Link) (xs : List Call) (c : Crate) → Inv c → HasLink n l k c → NoneOf (λ x. is_by n l x && is_end (kind x)) xs → HasLink n l k (after_calls xs c)
   calls_linked n l k [] c v link h = link
   calls_linked n l k (x ∷ xs) c v link h =
-      let parts = or_parts (is_by n l x && is_end (kind x)) (any (λ x. is_by n l x && is_end (kind x)) xs) h in
+      let parts = or_parts (is_by n l x && is_end (kind x)) (list_any (λ x. is_by n l x && is_end (kind x)) xs) h in
       calls_linked n l k xs (step x c).crate (inv_step x c v) (step_linked n l k c v link x parts.0) parts.1
 
   calls_still : (n l : ℕ) (k : Link) (xs : List Call) (c : Crate) → Inv c → HasLink n l k c → NoneOf (λ x. is_by n l x && (is_end (kind x) || is_transfer (kind x))) xs → Still k.slot c (after_calls xs c)
   calls_still n l k [] c v link h = still_same k.slot c
   calls_still n l k (x ∷ xs) c v link h =
       let d : Crate = (step x c).crate in
-      let parts = or_parts (is_by n l x && (is_end (kind x) || is_transfer (kind x))) (any (λ x. is_by n l x && (is_end (kind x) || is_transfer (kind x))) xs) h in
+      let parts = or_parts (is_by n l x && (is_end (kind x) || is_transfer (kind x))) (list_any (λ x. is_by n l x && (is_end (kind x) || is_transfer (kind x))) xs) h in
       let next : HasLink n l k d = step_linked n l k c v link x (weaker (is_by n l x) (is_end (kind x)) (is_transfer (kind x)) parts.0) in
       still_then k.slot c d (after_calls xs d) (step_still n l k c v link x parts.0) (calls_still n l k xs d (inv_step x c v) next parts.1)
 

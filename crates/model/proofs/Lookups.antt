@@ -1,10 +1,11 @@
 -- What a look-up in a crate gives after each single change.
-use Rattle.std.proofs.Common.{◌≡◌, ℕ, zero, suc, ◌+◌, Bool, true, false, cond, eqb, List, [], ◌∷◌, map, Some, None, Option, sym, refl, ap, ◌∙◌, subst, add-one}
+use Rattle.std.proofs.Common.{◌≡◌, ℕ, zero, suc, ◌+◌, Bool, true, false, cond, eqb, List, [], ◌∷◌, map, Some, None, Option, sym, refl, ap, ◌∙◌, subst, add-one, find}
+use Rattle.std.proofs.lemmas.Option.{none-some}
 use Rattle.std.proofs.lemmas.Bool.{eqb-true, ne_eqb}
 use Rattle.std.specs.Option.{option_map}
 use Rattle.std.specs.List.{slice_get}
 use Rattle.arbitration.specs.declared.replies.Event.{Event}
-use Rattle.arbitration.specs.Lists.{first, amended}
+use Rattle.arbitration.specs.Lists.{amended}
 use Rattle.arbitration.specs.Rules.{Bus, after}
 use Rattle.model.specs.declared.cells.Space.{Space}
 use Rattle.model.specs.declared.parts.Flags.{Flags}
@@ -13,23 +14,23 @@ use Rattle.model.specs.declared.parts.Slot.{Slot}
 use Rattle.model.specs.declared.parts.Operation.{Operation}
 use Rattle.model.specs.Crates.{Segment, Crate, numbered, bus_of, bus_at, operation_of, operation_at, with_event, happens, with_operation, set_operation, leads_to, with_flags, set_flags, index_of, pointer_of, pointer_at, pointed, set_pointer}
 use Rattle.model.specs.Calls.{no_flags}
-use Rattle.model.proofs.Basics.{by_eq, none_not_some, amended_same, amended_other, amended_map}
+use Rattle.model.proofs.Basics.{by_eq, amended_same, amended_other, amended_map}
 use Rattle.model.proofs.Buses.{number_after, empty_after}
 
 -- ---- segments. Segment n is changed by f, which keeps its number
 module _ (n : ℕ) (f : Segment → Segment) (keeps : (s : Segment) → (f s).bus.number ≡ s.bus.number) where
-  found_other : (m : ℕ) (ss : List Segment) → (m ≡ n → ⊥) → first (numbered m) (amended (numbered n) f ss) ≡ first (numbered m) ss
+  found_other : (m : ℕ) (ss : List Segment) → (m ≡ n → ⊥) → find (numbered m) (amended (numbered n) f ss) ≡ find (numbered m) ss
   found_other m ss ne =
       amended_other (numbered n) f (numbered m) (λ s h. ne_eqb s.bus.number m (λ q. ne (sym q ∙ eqb-true s.bus.number n h))) (λ s. ap (λ (k : ℕ). eqb k m) (keeps s)) ss
 
-  found_same : (ss : List Segment) → first (numbered n) (amended (numbered n) f ss) ≡ option_map f (first (numbered n) ss)
+  found_same : (ss : List Segment) → find (numbered n) (amended (numbered n) f ss) ≡ option_map f (find (numbered n) ss)
   found_same ss = amended_same (numbered n) f (λ s. ap (λ (k : ℕ). eqb k n) (keeps s)) ss
 
   -- an answer in which the change does not show
-  found_alike : {X : Type 0} (F : Option Segment → X) → ((o : Option Segment) → F (option_map f o) ≡ F o) → (m : ℕ) (ss : List Segment) → F (first (numbered m) (amended (numbered n) f ss)) ≡ F (first (numbered m) ss)
+  found_alike : {X : Type 0} (F : Option Segment → X) → ((o : Option Segment) → F (option_map f o) ≡ F o) → (m : ℕ) (ss : List Segment) → F (find (numbered m) (amended (numbered n) f ss)) ≡ F (find (numbered m) ss)
   found_alike F blind m ss =
-      by_eq m n (F (first (numbered m) (amended (numbered n) f ss)) ≡ F (first (numbered m) ss))
-      (λ q. subst (λ k. F (first (numbered k) (amended (numbered n) f ss)) ≡ F (first (numbered k) ss)) (sym q) (ap F (found_same ss) ∙ blind (first (numbered n) ss)))
+      by_eq m n (F (find (numbered m) (amended (numbered n) f ss)) ≡ F (find (numbered m) ss))
+      (λ q. subst (λ k. F (find (numbered k) (amended (numbered n) f ss)) ≡ F (find (numbered k) ss)) (sym q) (ap F (found_same ss) ∙ blind (find (numbered n) ss)))
       (λ ne. ap F (found_other m ss ne))
 
 -- ---- an event
@@ -40,7 +41,7 @@ pub bus_other : (m n : ℕ) (e : Event) (c : Crate) → (m ≡ n → ⊥) → bu
 bus_other m n e c ne = ap (bus_of m) (found_other n (with_event e) (event_number e) m c.segments ne)
 
 pub bus_same : (n : ℕ) (e : Event) (c : Crate) → bus_at n (happens n e c) ≡ after e (bus_at n c)
-bus_same n e c = ap (bus_of n) (found_same n (with_event e) (event_number e) c.segments) ∙ go (first (numbered n) c.segments)
+bus_same n e c = ap (bus_of n) (found_same n (with_event e) (event_number e) c.segments) ∙ go (find (numbered n) c.segments)
   where
     go : (o : Option Segment) → bus_of n (option_map (with_event e) o) ≡ after e (bus_of n o)
     go None = sym (empty_after e n)
@@ -72,7 +73,7 @@ pub operation_other : (m n : ℕ) (o : Option Operation) (c : Crate) → (m ≡ 
 operation_other m n o c ne = ap operation_of (found_other n (with_operation o) (λ s. refl) m c.segments ne)
 
 pub operation_same : (n : ℕ) (o : Option Operation) (c : Crate) (P : Option Operation → Type 0) → P None → P o → P (operation_at n (set_operation n o c))
-operation_same n o c P a b = subst (λ x. P (operation_of x)) (sym (found_same n (with_operation o) (λ s. refl) c.segments)) (go (first (numbered n) c.segments))
+operation_same n o c P a b = subst (λ x. P (operation_of x)) (sym (found_same n (with_operation o) (λ s. refl) c.segments)) (go (find (numbered n) c.segments))
   where
     go : (x : Option Segment) → P (operation_of (option_map (with_operation o) x))
     go None = a
@@ -101,14 +102,14 @@ stations_pointer k s v c = stations_pointed k s v c.slots
 
 -- a module that is found by a test stands where the test says
 pub index_station : (p : Slot → Bool) (g : ℕ) → ((x : Slot) → p x ≡ true → x.segment ≡ g) → (xs : List Slot) (k : ℕ) → index_of p xs ≡ Some k → slice_get (map (λ x. x.segment) xs) k ≡ Some g
-index_station p g h [] k e = none_not_some k e
+index_station p g h [] k e = absurd (none-some k e)
 index_station p g h (x ∷ xs) k e = go (p x) refl (index_of p xs) refl e (index_station p g h xs)
   where
     go : (b : Bool) → p x ≡ b → (o : Option ℕ) → index_of p xs ≡ o → cond b (Some 0) (elim o [ None ↦ None | Some j ↦ Some (j + 1) ]) ≡ Some k →
         ((j : ℕ) → index_of p xs ≡ Some j → slice_get (map (λ x. x.segment) xs) j ≡ Some g) →
         slice_get (x.segment ∷ map (λ x. x.segment) xs) k ≡ Some g
     go true q o r e more = let z : 0 ≡ k = cc in subst (λ k. slice_get (x.segment ∷ map (λ x. x.segment) xs) k ≡ Some g) z (ap Some (h x q))
-    go false q None r e more = none_not_some k e
+    go false q None r e more = absurd (none-some k e)
     go false q (Some j) r e more =
         let z : j + 1 ≡ k = cc in
         subst (λ k. slice_get (x.segment ∷ map (λ x. x.segment) xs) k ≡ Some g) (sym (add-one j) ∙ z) (more j r)

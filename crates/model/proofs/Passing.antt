@@ -5,7 +5,7 @@ use Rattle.arbitration.specs.declared.contenders.Move.TheVariants as move
 use Rattle.arbitration.specs.declared.contenders.Contender.{Contender}
 use Rattle.arbitration.specs.declared.replies.Event.{Event}
 use Rattle.arbitration.specs.declared.replies.Event.TheVariants.{Wish, Withdraw, Arbitrate, Release}
-use Rattle.arbitration.specs.Lists.{any}
+use Rattle.std.specs.List.{list_any}
 use Rattle.arbitration.specs.Contenders.{owns}
 use Rattle.arbitration.specs.Rules.{Bus, winner, by_winner, answer}
 use Rattle.arbitration.specs.Waiting.{after_all, granted_by, grants}
@@ -209,7 +209,7 @@ module _ (n : ℕ) where
         started_cases (CallTurn c) r _ c (λ _. calm_call c c (still_turn c c refl)) (λ k _. calm_call c (linked r k c).crate (linked_kept Calm calm_closes r k c))
         (travelled_turn r r.segment _ c (path_chain W S _ r.segment r.group c s))
 
-    granted_turn : (m : ℕ) (w : Contender) (c : Crate) → any owns (bus_at m c).contenders ≡ false → winner (bus_at m c).contenders ≡ Some w → CallTurn c (granting m c w)
+    granted_turn : (m : ℕ) (w : Contender) (c : Crate) → list_any owns (bus_at m c).contenders ≡ false → winner (bus_at m c).contenders ≡ Some w → CallTurn c (granting m c w)
     granted_turn m w c free e =
         let told : granted_by (answer Arbitrate (bus_at m c)) ≡ w.level ∷ [] = ap granted_by (cond-false _ _ _ free ∙ ap by_winner e) in
         turn_as Trying Turning trying_turning c (happens m Arbitrate c) (grant m w.level ∷ []) (subst (λ ls. Turn Trying n c (happens m Arbitrate c) (map (grant m) ls)) told (arbitrate_turn m c))

@@ -1,15 +1,14 @@
 -- A refused call changes nothing, and no call brings more than seven grants.
 use Rattle.std.proofs.Common.{◌≡◌, ℕ, zero, suc, ◌≤◌, true, cond, List, [], ◌∷◌, length, is_ok, Err, Result, sym, refl, ap, arith, length-append}
 use lib.ListN.{length-map}
-use Rattle.std.proofs.lemmas.Bool.{cond_both, both_ways}
+use Rattle.std.proofs.lemmas.Bool.{cond_both, both_ways, true≢false}
 use Rattle.arbitration.specs.declared.replies.Answer.{Answer}
 use Rattle.arbitration.specs.declared.replies.Event.TheVariants.{Arbitrate}
 use Rattle.arbitration.specs.Rules.{answer}
 use Rattle.arbitration.specs.Waiting.{granted_by}
-use Rattle.arbitration.proofs.Changing.{absurdly}
 use Rattle.model.specs.declared.parts.Interconnect.{Interconnect}
 use Rattle.model.specs.declared.replies.Reason.{Reason}
-use Rattle.model.specs.declared.replies.Refusal.{Refusal}
+use Rattle.arbitration.specs.declared.replies.Refusal.{Refusal}
 use Rattle.model.specs.Crates.{Crate, bus_at}
 use Rattle.model.specs.Outcomes.{Outcome, refused}
 use Rattle.model.specs.Ways.{next_hop, path, path_to}
@@ -32,10 +31,10 @@ travelled_answered r m (i ∷ is) c =
 
 -- ---- a refusal, if the outcome is one, is at n, and nothing changed
 abbrev Refuses : Crate → ℕ → Outcome → Type 0
-Refuses c n o = (r : Refusal) → o.reply ≡ Err r → (r.segment ≡ n) × (o.crate ≡ c) × (o.grants ≡ [])
+Refuses c n o = (r : Refusal Reason) → o.reply ≡ Err r → (r.segment ≡ n) × (o.crate ≡ c) × (o.grants ≡ [])
 
 refused_here : (c : Crate) (n : ℕ) (q : Reason) → Refuses c n (refused q n c)
-refused_here c n q r e = let same : record { reason = q; segment = n } ≡ r = cc in (ap (λ (z : Refusal). z.segment) (sym same), refl, refl)
+refused_here c n q r e = let same : record { reason = q; segment = n } ≡ r = cc in (ap (λ (z : Refusal Reason). z.segment) (sym same), refl, refl)
 
 not_refused : (c : Crate) (n : ℕ) (o : Outcome) → Answered o → Refuses c n o
 not_refused c n o ok r e = absurd (both_ways (is_ok o.reply) (ap is_ok e) ok)
@@ -44,16 +43,16 @@ refusals : (c : Crate) → Branches c (λ x o. Refuses c (named x) o)
 refusals c =
     record {
       refuses = λ x q. refused_here c (named x) q;
-      wishes = λ n l a r e. absurdly (ap is_ok e);
-      withdraws = λ n l r e. absurdly (ap is_ok e);
-      arbitrates = λ n w _ _ r e. absurdly (ap is_ok e);
+      wishes = λ n l a r e. absurd (true≢false (ap is_ok e));
+      withdraws = λ n l r e. absurd (true≢false (ap is_ok e));
+      arbitrates = λ n w _ _ r e. absurd (true≢false (ap is_ok e));
       addresses = λ n l ms ad _ _.
-          started_cases (Refuses c n) (request n ms ad) _ c (refused_here c n) (λ k _ r e. absurdly (ap is_ok e))
+          started_cases (Refuses c n) (request n ms ad) _ c (refused_here c n) (λ k _ r e. absurd (true≢false (ap is_ok e)))
           (not_refused c n _ (travelled_answered (request n ms ad) n (path_to n (group_of n ad) c) c));
-      cycles = λ n l ms read w k _ _ r e. absurdly (ap is_ok e);
-      ends = λ n l o _ _ r e. absurdly (ap is_ok e);
-      releases = λ n l _ r e. absurdly (ap is_ok e);
-      clears = λ n r e. absurdly (ap is_ok e);
+      cycles = λ n l ms read w k _ _ r e. absurd (true≢false (ap is_ok e));
+      ends = λ n l o _ _ r e. absurd (true≢false (ap is_ok e));
+      releases = λ n l _ r e. absurd (true≢false (ap is_ok e));
+      clears = λ n r e. absurd (true≢false (ap is_ok e));
     }
 
 pub a_refused_call_names_its_segment_and_changes_nothing : ARefusedCallNamesItsSegmentAndChangesNothing

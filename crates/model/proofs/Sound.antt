@@ -1,5 +1,6 @@
 -- What every call keeps: each bus is sound, the interconnects lead where they led, and the modules stand where they stood.
 use Rattle.std.proofs.Common.{◌≡◌, ℕ, zero, suc, ◌/◌, ◌%◌, ◌^◌, ◌<◌, true, cond, not, ◌&&◌, eqb, List, [], ◌∷◌, Some, None, sym, ap, ◌∙◌, subst}
+use Rattle.std.proofs.lemmas.Option.{none-some}
 use Rattle.std.proofs.lemmas.Bool.{eqb-true, eq-eqb, and_parts, both_ways, not-true, cond_both}
 use Rattle.std.specs.List.{slice_get}
 use Rattle.arbitration.specs.Lists.{holds}
@@ -13,7 +14,7 @@ use Rattle.model.specs.Ways.{passes, route, next_hop, path}
 use Rattle.model.specs.Addresses.{number_in, is_meant}
 use Rattle.model.specs.Calls.{is_interconnect, is_master, step}
 use Rattle.model.specs.Runs.{after_calls}
-use Rattle.model.proofs.Basics.{In, in_map, map_in, first_in, first_some, none_not_some, opt_both}
+use Rattle.model.proofs.Basics.{In, in_map, map_in, first_in, first_some, opt_both}
 use Rattle.model.proofs.Frame.{Steps, Transfers, step_kept}
 use Rattle.model.proofs.Lookups.{on_bus, bus_operation, wire, wires, wires_flags, stations, stations_pointer, index_station}
 
@@ -77,7 +78,7 @@ module _ (W : List Interconnect) (S : List ℕ) where
 
   next_wire : (n g : ℕ) (i : Interconnect) (c : Crate) → Sound W S c → next_hop n g c.interconnects ≡ Some i → In (wire i) W × (i.near ≡ n)
   next_wire n g i c h =
-      cond_both (eqb n g) None (route n g c.interconnects) (λ o. o ≡ Some i → In (wire i) W × (i.near ≡ n)) (λ _ e. none_not_some i e)
+      cond_both (eqb n g) None (route n g c.interconnects) (λ o. o ≡ Some i → In (wire i) W × (i.near ≡ n)) (λ _ e. absurd (none-some i e))
       (λ _ e.
       let r : In i c.interconnects × ((eqb i.near n && passes g i) ≡ true) = first_in (λ i. eqb i.near n && passes g i) i c.interconnects e in
       (in_wires i c h r.0, eqb-true i.near n (and_parts (eqb i.near n) (passes g i) r.1).0))

@@ -4,7 +4,7 @@ use Rattle.std.proofs.lemmas.Bool.{both_ways, cond-false, not_from_true}
 use Rattle.arbitration.specs.declared.contenders.Contender.{Contender}
 use Rattle.arbitration.specs.declared.replies.Event.{Event}
 use Rattle.arbitration.specs.declared.replies.Event.TheVariants as event
-use Rattle.arbitration.specs.Lists.{any}
+use Rattle.std.specs.List.{list_any}
 use Rattle.arbitration.specs.Contenders.{idle, owns, wishes, assured, prioritised}
 use Rattle.arbitration.specs.Rules.{Bus, its, winner, by_winner, answer, after}
 use Rattle.arbitration.specs.Waiting.{after_all, grants, WishesThrough, other, rivals, to_others, to_prioritised}
@@ -128,13 +128,13 @@ granted_answered : (n : ℕ) (c : Crate) (o : Option Contender) → is_ok (by_wi
 granted_answered n c None e = absurd (both_ways false refl e)
 granted_answered n c (Some w) e = refl
 
-arbitrated : (n x : ℕ) (c : Crate) → is_some (segment_at n c) ≡ true → any owns (bus_at n c).contenders ≡ false → is_ok (answer event.Arbitrate (bus_at n c)) ≡ true → is_ok (step (Arbitrate n) c).reply ≡ true
+arbitrated : (n x : ℕ) (c : Crate) → is_some (segment_at n c) ≡ true → list_any owns (bus_at n c).contenders ≡ false → is_ok (answer event.Arbitrate (bus_at n c)) ≡ true → is_ok (step (Arbitrate n) c).reply ≡ true
 arbitrated n x c there free ok =
     let cs : List Contender = (bus_at n c).contenders in
     let inner : Outcome = given (winner cs) NobodyAsks n c (granting n c) in
-    let outer : Outcome = refused_if (any owns cs) SegmentOwned n c inner in
-    ap (λ (o : Outcome). is_ok o.reply) (cond-false (not (is_some (segment_at n c))) _ outer (not_from_true (is_some (segment_at n c)) there) ∙ cond-false (any owns cs) _ inner free)
-    ∙ granted_answered n c (winner cs) (ap is_ok (sym (cond-false (any owns cs) _ (by_winner (winner cs)) free)) ∙ ok)
+    let outer : Outcome = refused_if (list_any owns cs) SegmentOwned n c inner in
+    ap (λ (o : Outcome). is_ok o.reply) (cond-false (not (is_some (segment_at n c))) _ outer (not_from_true (is_some (segment_at n c)) there) ∙ cond-false (list_any owns cs) _ inner free)
+    ∙ granted_answered n c (winner cs) (ap is_ok (sym (cond-false (list_any owns cs) _ (by_winner (winner cs)) free)) ∙ ok)
 
 pub waiting_is_bounded : (W : List Interconnect) (S : List ℕ) → Plan W → (setup : Crate) → Sound W S setup → WaitingIsBounded setup
 waiting_is_bounded W S plan setup s =

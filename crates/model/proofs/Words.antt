@@ -10,7 +10,8 @@ use Rattle.model.specs.declared.cells.Cell.TheVariants.{Absent, Fixed, Open}
 use Rattle.model.specs.declared.parts.Link.{Link}
 use Rattle.model.specs.declared.replies.Status.TheVariants.{Valid, Rejected}
 use Rattle.model.specs.declared.replies.Answer.TheVariants.{Cycle}
-use Rattle.model.specs.declared.replies.Refusal.{Refusal}
+use Rattle.model.specs.declared.replies.Reason.{Reason}
+use Rattle.arbitration.specs.declared.replies.Refusal.{Refusal}
 use Rattle.model.specs.Crates.{Table, Crate, operation_at, link_at, happens, store, same_space}
 use Rattle.model.specs.Outcomes.{Outcome}
 use Rattle.model.specs.Ways.{dropped, dropped_if_any}
@@ -93,7 +94,7 @@ module _ (b : Book) (c : Crate) (agrees : Agrees b c.cells) where
       go false true = other_agrees (eqb (status_code (pointer_cycle read w c k).status) 0) read k w (pointer_cycle read w c k).crate (pointer_cells read w k)
       go false false = agrees
 
-  noted_refused : (x : Call) (r : Refusal) → noted x (Err r) c b ≡ b
+  noted_refused : (x : Call) (r : Refusal Reason) → noted x (Err r) c b ≡ b
   noted_refused (Wish n l) r = refl
   noted_refused (Withdraw n l) r = refl
   noted_refused (Arbitrate n) r = refl

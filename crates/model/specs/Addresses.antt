@@ -1,7 +1,7 @@
 -- An address: from the owner's segment through interconnects to the module that it means.
-use Rattle.std.specs.Prelude.{ℕ, ◌/◌, ◌%◌, ◌^◌, Bool, true, cond, not, ◌&&◌, List, [], ◌∷◌, map, Some, None, Option, ◌==◌}
+use Rattle.std.specs.Prelude.{ℕ, ◌/◌, ◌%◌, ◌^◌, Bool, true, if◌then◌else◌, not, ◌&&◌, List, [], ◌∷◌, map, Some, None, Option, ◌==◌}
 use Rattle.arbitration.specs.declared.replies.Event.TheVariants.{Wish, Arbitrate}
-use Rattle.arbitration.specs.Lists.{any}
+use Rattle.std.specs.List.{list_any}
 use Rattle.arbitration.specs.Rules.{answer}
 use Rattle.arbitration.specs.Waiting.{granted_by}
 use Rattle.model.specs.declared.cells.Space.{Space}
@@ -20,7 +20,7 @@ use Rattle.model.specs.Ways.{owns_far, path_to, dropped}
 -- ---- the address word, of 32 bits
 -- AD<31:24>, the group; 0 means the owner's own segment
 abbrev pub group_of : ℕ → ℕ → ℕ
-group_of n ad = cond (ad / 2 ^ 24 == 0) n (ad / 2 ^ 24)
+group_of n ad = if ad / 2 ^ 24 == 0 then n else ad / 2 ^ 24
 
 -- AD<23:16>, the module number; 0 for none
 abbrev pub number_in : ℕ → ℕ
@@ -30,7 +30,7 @@ number_in ad = ad / 2 ^ 16 % 256
 abbrev pub is_meant : ℕ → ℕ → Slot → Bool
 is_meant n ad x =
     (x.segment == n) &&
-    cond (number_in ad == 0) (ad / 2 ^ 8 % 256 == 0 && x.position == ad % 256) (x.number == number_in ad)
+    (if number_in ad == 0 then ad / 2 ^ 8 % 256 == 0 && x.position == ad % 256 else x.number == number_in ad)
 
 -- what an address asks for: the owner's segment, the group, the space, and the word AD
 pub record Request : Type 0 where
@@ -41,12 +41,12 @@ pub record Request : Type 0 where
 
 -- MS 0 is data space, 1 is CSR space
 abbrev pub request : ℕ → ℕ → ℕ → Request
-request n ms ad = record { segment = n; group = group_of n ad; space = cond (ms == 0) Data Csr; ad = ad }
+request n ms ad = record { segment = n; group = group_of n ad; space = if ms == 0 then Data else Csr; ad = ad }
 
 -- ---- where the way ends
 -- the module meant, where segment m is the group's
 abbrev pub found : Request → ℕ → Crate → Option ℕ
-found r m c = cond (m == r.group) (index_of (is_meant m r.ad) c.slots) None
+found r m c = if m == r.group then index_of (is_meant m r.ad) c.slots else None
 
 -- a link loads a pointer only in data space, and only by module number
 abbrev pub is_loading : Request → Bool
@@ -54,7 +54,7 @@ is_loading r = same_space r.space Data && not (number_in r.ad == 0)
 
 -- then AD<15:00> goes into the data pointer
 abbrev pub loaded : Request → ℕ → Crate → Crate
-loaded r k c = cond (is_loading r) (set_pointer k Data (r.ad % 2 ^ 16) c) c
+loaded r k c = if is_loading r then set_pointer k Data (r.ad % 2 ^ 16) c else c
 
 -- SS 0: module k is linked
 abbrev pub linked : Request → ℕ → Crate → Outcome
@@ -95,7 +95,7 @@ grants_at n c = map (grant n) (granted_by (answer Arbitrate (bus_at n c)))
 
 -- the far segment was granted to another
 abbrev pub is_lost : Interconnect → List Grant → Bool
-is_lost i gs = any (λ g. not (g.level == i.level)) gs
+is_lost i gs = list_any (λ g. not (g.level == i.level)) gs
 
 -- flag 12 goes up
 abbrev pub note_loss : Flags → Flags
@@ -112,7 +112,7 @@ abbrev pub hop : Interconnect → Crate → Hop
 hop i c =
     let gs : List Grant = grants_at i.far (wishing i c) in
     record {
-      crate = cond (is_lost i gs) (set_flags i.far note_loss (contested i c)) (contested i c);
+      crate = if is_lost i gs then set_flags i.far note_loss (contested i c) else contested i c;
       through = owns_far i (contested i c);
       grants = gs;
     }
@@ -121,7 +121,7 @@ hop i c =
 -- from segment m on along the rest of the path
 unfoldable pub travelled : Request → ℕ → List Interconnect → Crate → Outcome
 travelled r m [] c = arrived r m c
-travelled r m (i ∷ is) c = behind (hop i c).grants (cond (hop i c).through (travelled r i.far is (hop i c).crate) (busy r i.far (hop i c).crate))
+travelled r m (i ∷ is) c = behind (hop i c).grants (if (hop i c).through then travelled r i.far is (hop i c).crate else busy r i.far (hop i c).crate)
 
 -- along the whole path. Without an interconnect to take, the module has to stand on the owner's own segment, else the address is refused
 abbrev pub started : Request → List Interconnect → Crate → Outcome

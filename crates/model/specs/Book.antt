@@ -1,7 +1,7 @@
 -- The book of last words: for each module, space and address the last word that was written there, else the setup's.
 -- It is fed the calls in order, each with its answer and with the link and the pointer that it met, and nothing else:
 -- it never looks into a module again.
-use Rattle.std.specs.Prelude.{ℕ, Bool, false, cond, not, ◌&&◌, List, [], ◌∷◌, Some, None, Ok, Err, Option, Result, ◌==◌, nat_lt}
+use Rattle.std.specs.Prelude.{ℕ, Bool, false, if◌then◌else◌, not, ◌&&◌, List, [], ◌∷◌, Some, None, Ok, Err, Option, Result, ◌==◌, nat_lt}
 use Rattle.model.specs.declared.calls.Call.{Call}
 use Rattle.model.specs.declared.calls.Call.TheVariants.{Wish, Withdraw, Arbitrate, Address, Data, End, Release, Clear}
 use Rattle.model.specs.declared.cells.Space.{Space}
@@ -10,7 +10,8 @@ use Rattle.model.specs.declared.cells.Cell.TheVariants.{Absent, Fixed, Open}
 use Rattle.model.specs.declared.parts.Link.{Link}
 use Rattle.model.specs.declared.replies.Answer.{Answer}
 use Rattle.model.specs.declared.replies.Answer.TheVariants.{Asking, Waiting, Granted, Done, Linked, Stopped, Cycle}
-use Rattle.model.specs.declared.replies.Refusal.{Refusal}
+use Rattle.model.specs.declared.replies.Reason.{Reason}
+use Rattle.arbitration.specs.declared.replies.Refusal.{Refusal}
 use Rattle.model.specs.Crates.{Crate, link_at, same_space}
 use Rattle.model.specs.Cycles.{pointer}
 use Rattle.model.specs.Calls.{step}
@@ -32,7 +33,7 @@ setup_book c k s a = word_of (c.cells k s a)
 
 -- the book with the word w for module k, space s and address a
 abbrev pub entered : ℕ → Space → ℕ → ℕ → Book → Book
-entered k s a w b k' s' a' = cond (k == k' && same_space s s' && a == a') (Some w) (b k' s' a')
+entered k s a w b k' s' a' = if k == k' && same_space s s' && a == a' then Some w else b k' s' a'
 
 -- the word w at the place of a link: the linked module, the linked space, and the pointer
 abbrev pub entered_at : Option Link → ℕ → Crate → Book → Book
@@ -40,7 +41,7 @@ entered_at None w c b = b
 entered_at (Some k) w c b = entered k.slot k.space (pointer k c) w b
 
 -- a data cycle with SS 0
-abbrev pub is_success : Result Answer Refusal → Bool
+abbrev pub is_success : Result Answer (Refusal Reason) → Bool
 is_success (Ok Asking) = false
 is_success (Ok Waiting) = false
 is_success (Ok (Granted l)) = false
@@ -51,12 +52,12 @@ is_success (Ok (Cycle s w)) = status_code s == 0
 is_success (Err r) = false
 
 -- the book after a call that met the crate c and was answered r: a word is entered for a single or block write with SS 0, and for nothing else
-abbrev pub noted : Call → Result Answer Refusal → Crate → Book → Book
+abbrev pub noted : Call → Result Answer (Refusal Reason) → Crate → Book → Book
 noted (Wish n l) r c b = b
 noted (Withdraw n l) r c b = b
 noted (Arbitrate n) r c b = b
 noted (Address n l ms ad) r c b = b
-noted (Data n l ms read w) r c b = cond (is_success r && nat_lt ms 2 && not read) (entered_at (link_at n c) w c b) b
+noted (Data n l ms read w) r c b = if is_success r && nat_lt ms 2 && not read then entered_at (link_at n c) w c b else b
 noted (End n l) r c b = b
 noted (Release n l) r c b = b
 noted (Clear n) r c b = b

@@ -1,8 +1,9 @@
 -- The eight calls. Each lists its refusals by rising number, and then what it does and answers.
-use Rattle.std.specs.Prelude.{ℕ, Bool, true, false, cond, not, ◌&&◌, [], ◌∷◌, is_some, Some, None, Ok, Option, ◌==◌, nat_eq, nat_lt}
+use Rattle.std.specs.Prelude.{ℕ, Bool, true, false, if◌then◌else◌, not, ◌&&◌, [], ◌∷◌, is_some, Some, None, Ok, Option, ◌==◌, nat_lt}
 use Rattle.arbitration.specs.declared.contenders.Contender.{Contender}
 use Rattle.arbitration.specs.declared.replies.Event.TheVariants as event
-use Rattle.arbitration.specs.Lists.{any, holds}
+use Rattle.std.specs.List.{list_any}
+use Rattle.arbitration.specs.Lists.{holds}
 use Rattle.arbitration.specs.Contenders.{idle, asks, owns, wishes}
 use Rattle.arbitration.specs.Rules.{its, winner}
 use Rattle.model.specs.declared.calls.Call.{Call}
@@ -20,7 +21,7 @@ use Rattle.model.specs.Cycles.{as_outcome, data_cycle}
 -- ---- who calls
 -- the level is that of the interconnect that leads to the segment: a call that names it is refused with 8
 abbrev pub is_interconnect : ℕ → ℕ → Crate → Bool
-is_interconnect n l c = holds (λ i. nat_eq i.level l) (interconnect_to n c)
+is_interconnect n l c = holds (λ i. i.level == l) (interconnect_to n c)
 
 -- a master: a contender of the segment that is no interconnect
 abbrev pub is_master : ℕ → ℕ → Crate → Bool
@@ -32,7 +33,7 @@ is_owner n l c = its l owns (bus_at n c)
 
 -- somebody owns the segment
 abbrev pub is_owned : ℕ → Crate → Bool
-is_owned n c = any owns (bus_at n c).contenders
+is_owned n c = list_any owns (bus_at n c).contenders
 
 -- its owner has a link
 abbrev pub is_linked : ℕ → Crate → Bool
@@ -57,7 +58,7 @@ wish n l c =
     let c' : Crate = happens n (event.Wish l) c in
     by_master n l c
     (refused_if (not (its l idle (bus_at n c))) WishesOrOwns n c
-    (answered (cond (its l asks (bus_at n c')) Asking Waiting) c'))
+    (answered (if its l asks (bus_at n c') then Asking else Waiting) c'))
 
 -- withdraw: refused with 7, 8, 21 (does not wish). The master is idle
 abbrev pub withdraw : ℕ → ℕ → Crate → Outcome

@@ -1,9 +1,9 @@
 -- A crate as a value: what it is made of, what is looked up in it, and the single changes that calls are made of.
 -- Where a number names several things, the first is meant. A change of a segment, an interconnect or a slot that is not there does nothing.
-use Rattle.std.specs.Prelude.{ℕ, zero, suc, ◌+◌, Bool, true, false, cond, ◌&&◌, List, [], ◌∷◌, Some, None, Option, ◌==◌}
+use Rattle.std.specs.Prelude.{ℕ, zero, suc, ◌+◌, Bool, true, false, if◌then◌else◌, ◌&&◌, List, [], ◌∷◌, Some, None, Option, ◌==◌, find}
 use Rattle.std.specs.List.{slice_get}
 use Rattle.arbitration.specs.declared.replies.Event.{Event}
-use Rattle.arbitration.specs.Lists.{first, amended}
+use Rattle.arbitration.specs.Lists.{amended}
 use Rattle.arbitration.specs.Rules.{Bus, empty, after}
 use Rattle.model.specs.declared.cells.Space.{Space}
 use Rattle.model.specs.declared.cells.Space.TheVariants.{Data, Csr}
@@ -39,7 +39,7 @@ numbered n s = s.bus.number == n
 
 -- the segment of number n, if there is one
 abbrev pub segment_at : ℕ → Crate → Option Segment
-segment_at n c = first (numbered n) c.segments
+segment_at n c = find (numbered n) c.segments
 
 -- the bus of a segment; of one that is not there, a bus that nobody is on
 abbrev pub bus_of : ℕ → Option Segment → Bus
@@ -95,7 +95,7 @@ leads_to n i = i.far == n
 
 -- the interconnect that leads to segment n
 abbrev pub interconnect_to : ℕ → Crate → Option Interconnect
-interconnect_to n c = first (leads_to n) c.interconnects
+interconnect_to n c = find (leads_to n) c.interconnects
 
 -- the interconnect with its flags changed by f
 abbrev pub with_flags : (Flags → Flags) → Interconnect → Interconnect
@@ -109,7 +109,7 @@ set_flags n f c = record { segments = c.segments; interconnects = amended (leads
 -- the index of the first slot that passes
 abbrev pub index_of : (Slot → Bool) → List Slot → Option ℕ
 index_of p [] = None
-index_of p (x ∷ xs) = cond (p x) (Some 0) (elim (index_of p xs) [ None ↦ None | Some k ↦ Some (k + 1) ])
+index_of p (x ∷ xs) = if p x then Some 0 else elim (index_of p xs) [ None ↦ None | Some k ↦ Some (k + 1) ]
 
 -- the pointer for a space
 abbrev pub in_space : Space → Pointers → ℕ
@@ -154,7 +154,7 @@ same_space Csr Csr = true
 
 -- the table t with the word w in the cell of space s and address a; every other cell as it was
 abbrev pub stored : Table → Space → ℕ → ℕ → Table
-stored t s a w s' a' = cond (same_space s s' && a == a') (Open w) (t s' a')
+stored t s a w s' a' = if same_space s s' && a == a' then Open w else t s' a'
 
 -- the word w is stored in a cell of module k; every other module is as it was
 abbrev pub store : ℕ → Space → ℕ → ℕ → Crate → Crate
@@ -163,5 +163,5 @@ store k s a w c =
       segments = c.segments;
       interconnects = c.interconnects;
       slots = c.slots;
-      cells = λ k' s' a'. cond (k == k') (stored (c.cells k) s a w s' a') (c.cells k' s' a');
+      cells = λ k' s' a'. (if k == k' then stored (c.cells k) s a w s' a' else c.cells k' s' a');
     }

@@ -1,5 +1,5 @@
 -- A data cycle over a link. Slave status 2 and 6 change nothing.
-use Rattle.std.specs.Prelude.{ℕ, ◌+◌, ◌%◌, ◌^◌, Bool, true, false, cond, ◌==◌, nat_lt}
+use Rattle.std.specs.Prelude.{ℕ, ◌+◌, ◌%◌, ◌^◌, Bool, true, false, if◌then◌else◌, ◌==◌, nat_lt}
 use Rattle.model.specs.declared.cells.Cell.{Cell}
 use Rattle.model.specs.declared.cells.Cell.TheVariants.{Absent, Fixed, Open}
 use Rattle.model.specs.declared.parts.Link.{Link}
@@ -29,11 +29,11 @@ as_outcome y = answered (Cycle y.status y.word) y.crate
 
 -- after a block transfer the pointer is one further than it was, with 0 after FFFFFFFFh
 abbrev pub advanced : Bool → Link → ℕ → Crate → Crate
-advanced block k t c = cond block (set_pointer k.slot k.space ((t + 1) % 2 ^ 32) c) c
+advanced block k t c = if block then set_pointer k.slot k.space ((t + 1) % 2 ^ 32) c else c
 
 -- a transfer with the cell at the pointer t: read answers its word, write puts w there and answers 0
 abbrev pub transferred : Bool → Bool → Link → ℕ → ℕ → Crate → Cell → Cycled
-transferred block read k t w c Absent = cycled (cond block EndOfBlock Rejected) 0 c
+transferred block read k t w c Absent = cycled (if block then EndOfBlock else Rejected) 0 c
 transferred block true k t w c (Fixed x) = cycled Valid x (advanced block k t c)
 transferred block false k t w c (Fixed x) = cycled Rejected 0 c
 transferred block true k t w c (Open x) = cycled Valid x (advanced block k t c)
@@ -50,4 +50,4 @@ pointer_cycle false w c k = cycled Valid 0 (set_pointer k.slot k.space w c)
 
 -- MS 0 single, 1 block, 2 secondary address, 3 to 7 reserved
 abbrev pub data_cycle : ℕ → Bool → ℕ → Crate → Link → Cycled
-data_cycle ms read w c k = cond (nat_lt ms 2) (word_cycle (ms == 1) read w c k) (cond (ms == 2) (pointer_cycle read w c k) (cycled Rejected 0 c))
+data_cycle ms read w c k = if nat_lt ms 2 then word_cycle (ms == 1) read w c k else if ms == 2 then pointer_cycle read w c k else cycled Rejected 0 c

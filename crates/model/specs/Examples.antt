@@ -1,5 +1,5 @@
 -- Ten worked examples, each with what the definitions give and what is wanted.
-use Rattle.std.specs.Prelude.{◌≡◌, ℕ, Bool, true, false, cond, List, [], ◌∷◌, ◌++◌, map, None, Ok, Err, Result, ◌==◌, nat_lt}
+use Rattle.std.specs.Prelude.{◌≡◌, ℕ, Bool, true, false, if◌then◌else◌, List, [], ◌∷◌, ◌++◌, map, None, Ok, Err, Result, ◌==◌, nat_lt}
 use Rattle.arbitration.specs.declared.contenders.Access.TheVariants.{Prioritised, Assured}
 use Rattle.arbitration.specs.Contenders.{asks}
 use Rattle.arbitration.specs.Rules.{newcomer, its}
@@ -10,7 +10,8 @@ use Rattle.model.specs.declared.cells.Cell.TheVariants.{Absent, Fixed, Open}
 use Rattle.model.specs.declared.parts.Slot.{Slot}
 use Rattle.model.specs.declared.replies.Answer.{Answer}
 use Rattle.model.specs.declared.replies.Answer.TheVariants.{Asking, Waiting, Granted, Done, Linked, Stopped, Cycle}
-use Rattle.model.specs.declared.replies.Refusal.{Refusal}
+use Rattle.model.specs.declared.replies.Reason.{Reason}
+use Rattle.arbitration.specs.declared.replies.Refusal.{Refusal}
 use Rattle.model.specs.Crates.{Table, Crate, bus_at, pointer_at}
 use Rattle.model.specs.Numbers.{number_of, status_code, link_code, stop_code}
 use Rattle.model.specs.Calls.{step}
@@ -33,7 +34,7 @@ pub data Seen : Type 0 where
   pointer : (address : ℕ) → Seen
 
 -- an answer or a refusal by its numbers
-abbrev pub seen : Result Answer Refusal → Seen
+abbrev pub seen : Result Answer (Refusal Reason) → Seen
 seen (Ok Asking) = Seen.asks_now
 seen (Ok Waiting) = Seen.waits_now
 seen (Ok (Granted l)) = Seen.grants_to l
@@ -50,13 +51,13 @@ says c xs x = seen (step x (after_calls xs c)).reply
 -- ---- the crate
 -- data 0 to 255 open at 0, CSR 0 fixed 1
 abbrev pub memory : Table
-memory Data a = cond (nat_lt a 256) (Open 0) Absent
-memory Csr a = cond (a == 0) (Fixed 1) Absent
+memory Data a = if nat_lt a 256 then Open 0 else Absent
+memory Csr a = if a == 0 then Fixed 1 else Absent
 
 -- CSR 80000000h to 80000003h fixed: 55h, 0, 0, 1
 abbrev pub prom : Table
 prom Data a = Absent
-prom Csr a = cond (a == 0x8000_0000) (Fixed 0x55) (cond (a == 0x8000_0001) (Fixed 0) (cond (a == 0x8000_0002) (Fixed 0) (cond (a == 0x8000_0003) (Fixed 1) Absent)))
+prom Csr a = if a == 0x8000_0000 then Fixed 0x55 else if a == 0x8000_0001 then Fixed 0 else if a == 0x8000_0002 then Fixed 0 else if a == 0x8000_0003 then Fixed 1 else Absent
 
 -- a slot with both pointers at 0
 abbrev pub slot : ℕ → ℕ → ℕ → Slot
@@ -70,7 +71,7 @@ one_segment =
       segments = record { bus = record { number = 1; contenders = newcomer 5 Assured ∷ newcomer 9 Assured ∷ newcomer 40 Prioritised ∷ []; inhibit = false }; operation = None } ∷ [];
       interconnects = [];
       slots = slot 1 3 1 ∷ slot 1 4 2 ∷ [];
-      cells = λ k s a. cond (k == 0) (memory s a) (cond (k == 1) (prom s a) Absent);
+      cells = λ k s a. (if k == 0 then memory s a else if k == 1 then prom s a else Absent);
     }
 
 -- ---- the runs

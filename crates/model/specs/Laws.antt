@@ -1,6 +1,6 @@
 -- What holds of every run from a crate at rest.
 use Rattle.std.specs.Prelude.{◌≡◌, ℕ, ◌+◌, ◌*◌, ◌<◌, ◌≤◌, Bool, true, false, ◌&&◌, ◌||◌, List, [], ◌∷◌, ◌++◌, is_ok, Some, Ok}
-use Rattle.arbitration.specs.Lists.{any}
+use Rattle.std.specs.List.{list_any}
 use Rattle.arbitration.specs.Contenders.{idle, owns, wishes, assured}
 use Rattle.arbitration.specs.Rules.{Bus, its}
 use Rattle.arbitration.specs.Waiting.{rivals, to_others, to_prioritised}
@@ -31,7 +31,7 @@ pub record Bounded (n x : ℕ) (calls : List Call) (c : Crate) : Type 0 where
 pub record WaitingIsBounded (setup : Crate) : Type 0 where
   -- while it wishes and nobody owns its segment, arbitrate is not refused there
   pub not_refused : (before : List Call) (n x : ℕ) → let c : Crate = after_calls before setup in
-      its x assured (bus_at n c) ≡ true → its x wishes (bus_at n c) ≡ true → any owns (bus_at n c).contenders ≡ false →
+      its x assured (bus_at n c) ≡ true → its x wishes (bus_at n c) ≡ true → list_any owns (bus_at n c).contenders ≡ false →
       is_ok (step (Arbitrate n) c).reply ≡ true
   -- one that is idle, and then wishes after each of the calls; at the last call, which is any, its wish may go on, end or only begin
   pub bounded : (before calls : List Call) (last : Call) (n x : ℕ) → let c : Crate = after_calls before setup in
@@ -46,7 +46,7 @@ pub record HasLink (n l : ℕ) (k : Link) (c : Crate) : Type 0 where
 
 -- no call of the list passes
 abbrev pub NoneOf : (Call → Bool) → List Call → Type 0
-NoneOf p calls = any p calls ≡ false
+NoneOf p calls = list_any p calls ≡ false
 
 -- Whatever calls came before, and whatever calls come after a link was made:
 pub record LinksStand (setup : Crate) : Type 0 where

@@ -1,9 +1,9 @@
 -- A crate at rest, within the limits: what a crate may be before its first call. Any tree of segments, and any table of cells for each module.
-use Rattle.std.specs.Prelude.{◌≡◌, ℕ, Bool, true, false, not, ◌&&◌, leb, List, [], ◌∷◌, ◌++◌, map, length, is_some, ◌==◌, bit_and, nat_le, nat_lt}
+use Rattle.std.specs.Prelude.{◌≡◌, ℕ, Bool, true, false, not, ◌&&◌, List, [], ◌∷◌, ◌++◌, map, length, is_some, ◌==◌, bit_and, nat_le, nat_lt}
 use Rattle.arbitration.specs.declared.contenders.Access.{Access}
 use Rattle.arbitration.specs.declared.contenders.Access.TheVariants.{Prioritised, Assured}
 use Rattle.arbitration.specs.declared.contenders.Contender.{Contender}
-use Rattle.arbitration.specs.Lists.{any, every}
+use Rattle.std.specs.List.{list_any, list_all}
 use Rattle.arbitration.specs.Contenders.{idle}
 use Rattle.arbitration.specs.Rules.{Bus, its, in_range}
 use Rattle.arbitration.specs.Sound.{levels, distinct}
@@ -14,7 +14,7 @@ use Rattle.model.specs.Crates.{Segment, Crate, segment_at, bus_at}
 -- no two elements are alike
 abbrev pub apart : {A : Type 0} → (A → A → Bool) → List A → Bool
 apart alike [] = true
-apart alike (x ∷ xs) = not (any (alike x) xs) && apart alike xs
+apart alike (x ∷ xs) = not (list_any (alike x) xs) && apart alike xs
 
 -- ---- a segment
 -- idle, and with a level in the range of its access
@@ -23,7 +23,7 @@ contender_rests d = in_range d.level d.access && idle d
 
 -- at most 16 contenders with different levels, all at rest, and the inhibit down
 abbrev pub bus_rests : Bus → Bool
-bus_rests b = nat_le (length b.contenders) 16 && distinct (levels b.contenders) && every contender_rests b.contenders && not b.inhibit
+bus_rests b = nat_le (length b.contenders) 16 && distinct (levels b.contenders) && list_all contender_rests b.contenders && not b.inhibit
 
 -- numbered 1 to 8, with nothing under way
 abbrev pub segment_rests : Segment → Bool
@@ -68,14 +68,14 @@ same_position p q = p.0 == q.0 && p.1 == q.1
 -- ---- the crate
 -- everything within the limits, and nothing begun
 pub record AtRest (c : Crate) : Type 0 where
-  pub segments : every segment_rests c.segments ≡ true
+  pub segments : list_all segment_rests c.segments ≡ true
   -- so there are at most eight segments
   pub numbers_differ : distinct (map (λ s. s.bus.number) c.segments) ≡ true
-  pub interconnects : every (interconnect_rests c) c.interconnects ≡ true
+  pub interconnects : list_all (interconnect_rests c) c.interconnects ≡ true
   -- at most one interconnect leads to a segment
   pub fars_differ : distinct (map (λ i. i.far) c.interconnects) ≡ true
   pub groups_differ : apart share_a_group c.interconnects ≡ true
-  pub slots : every (slot_rests c) c.slots ≡ true
-  pub at_most_16_modules : leb (length c.slots) 16 ≡ true
+  pub slots : list_all (slot_rests c) c.slots ≡ true
+  pub at_most_16_modules : nat_le (length c.slots) 16 ≡ true
   pub module_numbers_differ : apart share_a_number c.slots ≡ true
   pub positions_differ : apart same_position (positions c) ≡ true

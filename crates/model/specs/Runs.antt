@@ -1,5 +1,5 @@
 -- Lists of calls: where they lead, what they grant, and whose they are.
-use Rattle.std.specs.Prelude.{ℕ, Bool, true, false, cond, ◌&&◌, List, [], ◌∷◌, ◌++◌, Some, None, Option, ◌==◌}
+use Rattle.std.specs.Prelude.{ℕ, Bool, true, false, if◌then◌else◌, ◌&&◌, List, [], ◌∷◌, ◌++◌, Some, None, Option, ◌==◌}
 use Rattle.arbitration.specs.Lists.{holds}
 use Rattle.model.specs.declared.calls.Call.{Call}
 use Rattle.model.specs.declared.calls.Call.TheVariants.{Wish, Withdraw, Arbitrate, Address, Data, End, Release, Clear}
@@ -20,7 +20,7 @@ grants_of (x ∷ xs) c = (step x c).grants ++ grants_of xs (step x c).crate
 -- the levels to which segment n was granted, in order
 abbrev pub levels_on : ℕ → List Grant → List ℕ
 levels_on n [] = []
-levels_on n (g ∷ gs) = cond (g.segment == n) (g.level ∷ levels_on n gs) (levels_on n gs)
+levels_on n (g ∷ gs) = if g.segment == n then g.level ∷ levels_on n gs else levels_on n gs
 
 -- P holds of the crate after each of the calls
 abbrev pub Throughout : (Crate → Type 0) → List Call → Crate → Type 0

@@ -2,7 +2,8 @@
 use Rattle.std.specs.Prelude.{◌≡◌, ℕ, ◌≤◌, [], length, Err}
 use Rattle.model.specs.declared.calls.Call.{Call}
 use Rattle.model.specs.declared.calls.Call.TheVariants.{Wish, Withdraw, Arbitrate, Address, Data, End, Release, Clear}
-use Rattle.model.specs.declared.replies.Refusal.{Refusal}
+use Rattle.model.specs.declared.replies.Reason.{Reason}
+use Rattle.arbitration.specs.declared.replies.Refusal.{Refusal}
 use Rattle.model.specs.Crates.{Crate}
 use Rattle.model.specs.Calls.{step}
 
@@ -19,7 +20,7 @@ named (Clear n) = n
 
 -- a refusal has the place that the call named, and leaves the crate as it was, with no grant
 abbrev pub ARefusedCallNamesItsSegmentAndChangesNothing : Type 0
-ARefusedCallNamesItsSegmentAndChangesNothing = (x : Call) (c : Crate) (r : Refusal) → (step x c).reply ≡ Err r → (r.segment ≡ named x) × ((step x c).crate ≡ c) × ((step x c).grants ≡ [])
+ARefusedCallNamesItsSegmentAndChangesNothing = (x : Call) (c : Crate) (r : Refusal Reason) → (step x c).reply ≡ Err r → (r.segment ≡ named x) × ((step x c).crate ≡ c) × ((step x c).grants ≡ [])
 
 -- no call brings more than seven grants
 abbrev pub ACallBringsAtMostSevenGrants : Type 0

@@ -1,7 +1,6 @@
 -- The way of an operation through interconnects, and its end.
-use Rattle.std.specs.Prelude.{ℕ, zero, suc, ◌-◌, ◌/◌, ◌%◌, ◌^◌, Bool, cond, ◌&&◌, List, [], ◌∷◌, Some, None, Option, ◌==◌, nat_le}
+use Rattle.std.specs.Prelude.{ℕ, zero, suc, ◌-◌, ◌/◌, ◌%◌, ◌^◌, Bool, if◌then◌else◌, ◌&&◌, List, [], ◌∷◌, Some, None, Option, ◌==◌, nat_le, find}
 use Rattle.arbitration.specs.declared.replies.Event.TheVariants.{Withdraw, Release}
-use Rattle.arbitration.specs.Lists.{first}
 use Rattle.arbitration.specs.Contenders.{owns, wishes}
 use Rattle.arbitration.specs.Rules.{its}
 use Rattle.model.specs.declared.parts.Interconnect.{Interconnect}
@@ -15,11 +14,11 @@ passes g i = nat_le 1 g && (i.mask / 2 ^ (g - 1)) % 2 == 1
 
 -- the interconnect on segment n that passes group g
 abbrev pub route : ℕ → ℕ → List Interconnect → Option Interconnect
-route n g is = first (λ i. (i.near == n) && passes g i) is
+route n g is = find (λ i. (i.near == n) && passes g i) is
 
 -- the interconnect to take from segment n towards group g: none on the group's own segment, and none where no interconnect passes the group
 abbrev pub next_hop : ℕ → ℕ → List Interconnect → Option Interconnect
-next_hop n g is = cond (n == g) None (route n g is)
+next_hop n g is = if n == g then None else route n g is
 
 -- the interconnects to take one after the other from segment n towards group g, at most k of them
 unfoldable pub path : ℕ → ℕ → ℕ → List Interconnect → List Interconnect
@@ -43,7 +42,7 @@ wishes_far i c = its i.level wishes (bus_at i.far c)
 -- Behind one that only wishes, its far segment may belong to another, and so may the interconnects there
 unfoldable pub in_use : List Interconnect → Crate → List Interconnect
 in_use [] c = []
-in_use (i ∷ is) c = cond (owns_far i c) (i ∷ in_use is c) (cond (wishes_far i c) (i ∷ []) [])
+in_use (i ∷ is) c = if owns_far i c then i ∷ in_use is c else if wishes_far i c then i ∷ [] else []
 
 -- the way of an operation of segment n to group g
 abbrev pub way : ℕ → ℕ → Crate → List Interconnect

@@ -1,6 +1,6 @@
 -- Runs that show what the laws and the definitions speak of: a wish that sees just as many grants to others as it may,
 -- a word that goes over two interconnects, the ways in which an address stops, and every refusal.
-use Rattle.std.specs.Prelude.{◌≡◌, ℕ, ◌+◌, ◌*◌, ◌<◌, Bool, true, false, cond, List, [], ◌∷◌, ◌++◌, map, Some, None, Option, ◌==◌}
+use Rattle.std.specs.Prelude.{◌≡◌, ℕ, ◌+◌, ◌*◌, ◌<◌, Bool, true, false, if◌then◌else◌, List, [], ◌∷◌, ◌++◌, map, Some, None, Option, ◌==◌}
 use Rattle.std.specs.Option.{option_map}
 use Rattle.arbitration.specs.declared.contenders.Access.TheVariants.{Prioritised, Assured}
 use Rattle.arbitration.specs.declared.contenders.Contender.{Contender}
@@ -59,7 +59,7 @@ three_in_a_row =
       -- groups 2 and 3 from segment 1, group 3 from segment 2
       interconnects = interconnect 1 2 6 ∷ interconnect 2 3 4 ∷ [];
       slots = slot 3 7 1 ∷ [];
-      cells = λ k s a. cond (k == 0) (memory s a) Absent;
+      cells = λ k s a. (if k == 0 then memory s a else Absent);
     }
 
 -- the master of segment 1 links the memory at word 16

@@ -1,14 +1,14 @@
 //! What a module holds.
 
 /// The two address spaces of a module: data, and control and status registers.
-#[derive(Clone, Copy)]
+#[derive(Clone, Copy, PartialEq, Eq, Debug)]
 pub enum Space {
     Data,
     Csr,
 }
 
 /// What a module holds at one address of one space.
-#[derive(Clone, Copy)]
+#[derive(Clone, Copy, PartialEq, Eq, Debug)]
 pub enum Cell {
     /// There is no word here.
     Absent,

@@ -9,6 +9,7 @@ mod laws;
 mod parts;
 mod replies;
 
+pub use arbitration::Refusal;
 pub use calls::Call;
 pub use cells::{Cell, Space};
 pub use laws::{
@@ -19,4 +20,4 @@ pub use laws::{
     the_ten_examples_hold,
 };
 pub use parts::{Flags, Interconnect, Link, Operation, Pointers, Slot};
-pub use replies::{Answer, Grant, Reason, Refusal, Status, Stop};
+pub use replies::{Answer, Grant, Reason, Status, Stop};

@@ -1,7 +1,7 @@
 //! What a crate answers.
 
 /// How an address stopped on its way.
-#[derive(Clone, Copy)]
+#[derive(Clone, Copy, PartialEq, Eq, Debug)]
 pub enum Stop {
     /// Network busy: the far segment belongs to another.
     Busy,
@@ -10,7 +10,7 @@ pub enum Stop {
 }
 
 /// How a data cycle went.
-#[derive(Clone, Copy)]
+#[derive(Clone, Copy, PartialEq, Eq, Debug)]
 pub enum Status {
     /// The word was read or written, or the pointer was.
     Valid,
@@ -21,7 +21,8 @@ pub enum Status {
 }
 
 /// What a call that was not refused answers.
-#[derive(Clone, Copy)]
+// A segment's own answers stand here again: with one answer inside another, `Done` could be told in two ways.
+#[derive(Clone, Copy, PartialEq, Eq, Debug)]
 pub enum Answer {
     /// A wish: the master asks.
     Asking,
@@ -36,11 +37,13 @@ pub enum Answer {
     /// An address: its way stopped at this far segment.
     Stopped { stop: Stop, segment: u8 },
     /// A data cycle, with the word that it answers.
+    // A cycle is answered with a status and a word whatever the status; the word is 0 where none was read.
     Cycle { status: Status, word: u32 },
 }
 
 /// Why a call is refused.
-#[derive(Clone, Copy)]
+// Some of a segment's reasons stand here again: each layer's refusals are one flat list, as they are numbered.
+#[derive(Clone, Copy, PartialEq, Eq, Debug)]
 pub enum Reason {
     NoSuchSegment,
     NoSuchMaster,
@@ -58,15 +61,8 @@ pub enum Reason {
     NoAcknowledge,
 }
 
-/// A refusal and its place, the segment that the call named.
-#[derive(Clone, Copy)]
-pub struct Refusal {
-    pub reason: Reason,
-    pub segment: u8,
-}
-
 /// A segment came to be owned by the contender of a level.
-#[derive(Clone, Copy)]
+#[derive(Clone, Copy, PartialEq, Eq, Debug)]
 pub struct Grant {
     pub segment: u8,
     pub level: u8,

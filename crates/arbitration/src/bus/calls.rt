@@ -1,8 +1,8 @@
 //! What is done to a segment.
 ghost use Rattle.std.specs.Prelude.{◌≡◌};
-ghost use Rattle.arbitration.specs.Numbers.{reported, at_segment};
+ghost use Rattle.arbitration.specs.Calls.{Happens};
+ghost use Rattle.arbitration.specs.Numbers.{numbered};
 ghost use Rattle.arbitration.specs.Rules.{move_answer, after_move, answer, after};
-ghost use Rattle.arbitration.specs.View.{bus};
 ghost use Rattle.arbitration.specs.Waiting.{WaitingIsBounded};
 ghost use Rattle.arbitration.specs.Winning.{AnsweredIfFreeAndAsked, HighestAskerWins};
 ghost use Rattle.arbitration.specs.declared.replies.Event.TheVariants.{Wish, Withdraw, Arbitrate, Release};
@@ -13,82 +13,76 @@ use crate::replies::{Answer, Event, Reason, Refusal};
 use crate::scans;
 
 impl Segment {
+    // The calls of a segment are its methods by name (docs/DECISIONS.md); what each promises is said once, in `Happens`.
     /// The contender of a level wishes to own the segment; the answer says whether it asks or waits.
-    pub fn wish(&mut self, level: u8) -> Result<Answer, Refusal>
-        ensures answer { reported result ≡ at_segment (bus self.old).number (answer (Wish level) (bus self.old)) }
-        ensures after { bus self.new ≡ after (Wish level) (bus self.old) }
+    pub fn wish(&mut self, level: u8) -> Result<Answer, Refusal<Reason>>
+        ensures { Happens (Wish level) self.old result self.new }
     {
-        self.make(Move::Wish, level)
+        self.apply(Event::Wish(level))
     }
 
     /// The contender of a level gives up its wish.
-    pub fn withdraw(&mut self, level: u8) -> Result<Answer, Refusal>
-        ensures answer { reported result ≡ at_segment (bus self.old).number (answer (Withdraw level) (bus self.old)) }
-        ensures after { bus self.new ≡ after (Withdraw level) (bus self.old) }
+    pub fn withdraw(&mut self, level: u8) -> Result<Answer, Refusal<Reason>>
+        ensures { Happens (Withdraw level) self.old result self.new }
     {
-        self.make(Move::Withdraw, level)
+        self.apply(Event::Withdraw(level))
     }
 
     /// The contender of a level gives up the segment that it owns.
-    pub fn release(&mut self, level: u8) -> Result<Answer, Refusal>
-        ensures answer { reported result ≡ at_segment (bus self.old).number (answer (Release level) (bus self.old)) }
-        ensures after { bus self.new ≡ after (Release level) (bus self.old) }
+    pub fn release(&mut self, level: u8) -> Result<Answer, Refusal<Reason>>
+        ensures { Happens (Release level) self.old result self.new }
     {
-        self.make(Move::Release, level)
+        self.apply(Event::Release(level))
     }
 
     /// Of those that ask, the contender with the highest level comes to own the segment; the answer is its level.
-    pub fn arbitrate(&mut self) -> Result<Answer, Refusal>
-        ensures answer { reported result ≡ at_segment (bus self.old).number (answer Arbitrate (bus self.old)) }
-        ensures after { bus self.new ≡ after Arbitrate (bus self.old) }
-        ensures answered_if_free_and_asked { AnsweredIfFreeAndAsked (bus self.old) }
-        ensures highest_asker_wins { HighestAskerWins (bus self.old) }
+    pub fn arbitrate(&mut self) -> Result<Answer, Refusal<Reason>>
+        ensures happens { Happens Arbitrate self.old result self.new }
+        ensures answered_if_free_and_asked { AnsweredIfFreeAndAsked self.old }
+        ensures highest_asker_wins { HighestAskerWins self.old }
+    {
+        self.apply(Event::Arbitrate)
+    }
+
+    /// Does what the event says. Over whatever events come to a segment, waiting is bounded.
+    pub fn apply(&mut self, event: Event) -> Result<Answer, Refusal<Reason>>
+        ensures happens { Happens event self.old result self.new }
+        ensures waiting_is_bounded { WaitingIsBounded self.old }
     {
         let segment = self.number;
-        if let Some(_) = scans::place_in_state(&self.contenders, State::Owns) {
-            let reason = Reason::Owned;
-            return Err(Refusal { reason, segment });
-        }
-        let Some(i) = scans::place_of_winner(&self.contenders) else {
-            let reason = Reason::NobodyAsks;
-            return Err(Refusal { reason, segment });
+        let answer = match event {
+            Event::Wish(level) => self.make(Move::Wish, level),
+            Event::Withdraw(level) => self.make(Move::Withdraw, level),
+            Event::Arbitrate => self.grant(),
+            Event::Release(level) => self.make(Move::Release, level),
         };
+        answer.map_err(|reason| Refusal { reason, segment })
+    }
+
+    /// The contender of a level makes a move.
+    fn make(&mut self, step: Move, level: u8) -> Result<Answer, Reason>
+        ensures answer { numbered result ≡ move_answer step level self.old }
+        ensures after { self.new ≡ after_move step level self.old }
+    {
+        let i = scans::place_of_level(&self.contenders, level).ok_or(Reason::NoSuchContender)?;
+        let answer = self.contenders[i].make(step, self.inhibit)?;
+        self.inhibit = scans::settle(&mut self.contenders, self.inhibit);
+        Ok(answer)
+    }
+
+    /// The winner comes to own the segment.
+    fn grant(&mut self) -> Result<Answer, Reason>
+        ensures answer { numbered result ≡ answer Arbitrate self.old }
+        ensures after { self.new ≡ after Arbitrate self.old }
+    {
+        if scans::any_in_state(&self.contenders, State::Owns) {
+            return Err(Reason::Owned);
+        }
+        let i = scans::place_of_winner(&self.contenders).ok_or(Reason::NobodyAsks)?;
         let winner = &mut self.contenders[i];
         winner.state = State::Owns;
         let level = winner.level;
         self.inhibit = scans::settle(&mut self.contenders, true);
         Ok(Answer::Granted(level))
-    }
-
-    /// Does what the event says. Over whatever events come to a segment, waiting is bounded.
-    pub fn apply(&mut self, event: Event) -> Result<Answer, Refusal>
-        ensures answer { reported result ≡ at_segment (bus self.old).number (answer event (bus self.old)) }
-        ensures after { bus self.new ≡ after event (bus self.old) }
-        ensures waiting_is_bounded { WaitingIsBounded (bus self.old) }
-    {
-        match event {
-            Event::Wish(level) => self.wish(level),
-            Event::Withdraw(level) => self.withdraw(level),
-            Event::Arbitrate => self.arbitrate(),
-            Event::Release(level) => self.release(level),
-        }
-    }
-
-    /// The contender of a level makes a move.
-    fn make(&mut self, step: Move, level: u8) -> Result<Answer, Refusal>
-        ensures answer { reported result ≡ at_segment (bus self.old).number (move_answer step level (bus self.old)) }
-        ensures after { bus self.new ≡ after_move step level (bus self.old) }
-    {
-        let segment = self.number;
-        let Some(i) = scans::place_of_level(&self.contenders, level) else {
-            let reason = Reason::NoSuchContender;
-            return Err(Refusal { reason, segment });
-        };
-        let answer = match self.contenders[i].make(step, self.inhibit) {
-            Ok(answer) => answer,
-            Err(reason) => return Err(Refusal { reason, segment }),
-        };
-        self.inhibit = scans::settle(&mut self.contenders, self.inhibit);
-        Ok(answer)
     }
 }

@@ -1,8 +1,9 @@
 //! What a segment tells about itself.
 ghost use Rattle.std.specs.Prelude.{◌≡◌};
+ghost use Rattle.arbitration.specs.Calls.{load_of};
 ghost use Rattle.arbitration.specs.Numbers.{reported, at_segment};
 ghost use Rattle.arbitration.specs.Rules.{owner_of, state_of};
-ghost use Rattle.arbitration.specs.View.{bus, load_of};
+ghost use Rattle.arbitration.specs.Sound.{Sound};
 
 use crate::bus::Segment;
 use crate::contenders::{Contender, State};
@@ -10,7 +11,7 @@ use crate::replies::{Reason, Refusal};
 use crate::scans;
 
 /// How many contenders wish for a segment: what its load bar shows.
-#[derive(Clone, Copy, PartialEq, Debug)]
+#[derive(Clone, Copy, PartialEq, Eq, Debug)]
 pub struct Load {
     pub asking: usize,
     pub waiting: usize,
@@ -19,51 +20,48 @@ pub struct Load {
 impl Segment {
     /// The number that names the segment in refusals.
     pub fn number(&self) -> u8
-        ensures { result ≡ (bus self.now).number }
+        ensures { result ≡ self.now.number }
     {
         self.number
     }
 
-    /// The contenders, in the order in which they were added.
+    /// The contenders, in the order in which they were added. What holds of every segment holds of them.
     pub fn contenders(&self) -> &[Contender]
-        ensures { result.now ≡ (bus self.now).contenders }
+        ensures shown { result.now ≡ self.now.contenders }
+        ensures sound { Sound self.now.contenders self.now.inhibit }
     {
         self.contenders.as_slice()
     }
 
     /// Whether the arbitration request inhibit is up.
     pub fn inhibit(&self) -> bool
-        ensures { result ≡ (bus self.now).inhibit }
+        ensures { result ≡ self.now.inhibit }
     {
         self.inhibit
     }
 
     /// The level that owns the segment.
     pub fn owner(&self) -> Option<u8>
-        ensures { result ≡ owner_of (bus self.now) }
+        ensures { result ≡ owner_of self.now }
     {
-        match scans::place_in_state(&self.contenders, State::Owns) {
-            Some(i) => Some(self.contenders[i].level),
-            None => None,
-        }
+        self.contenders
+            .iter()
+            .find(|c| c.is(State::Owns))
+            .map(|c| c.level)
     }
 
     /// What the contender of a level is doing. Refused where there is no such contender.
-    pub fn state(&self, level: u8) -> Result<State, Refusal>
-        ensures { reported result ≡ at_segment (bus self.now).number (state_of level (bus self.now)) }
+    pub fn state(&self, level: u8) -> Result<State, Refusal<Reason>>
+        ensures { reported result ≡ at_segment self.now.number (state_of level self.now) }
     {
-        match scans::place_of_level(&self.contenders, level) {
-            Some(i) => Ok(self.contenders[i].state),
-            None => Err(Refusal {
-                reason: Reason::NoSuchContender,
-                segment: self.number,
-            }),
-        }
+        let reason = Reason::NoSuchContender;
+        let segment = self.number;
+        scans::state_of_level(&self.contenders, level).ok_or(Refusal { reason, segment })
     }
 
     /// How many ask and how many wait.
     pub fn load(&self) -> Load
-        ensures { result ≡ load_of (bus self.now) }
+        ensures { result ≡ load_of self.now }
     {
         Load {
             asking: scans::count_in_state(&self.contenders, State::Asks),

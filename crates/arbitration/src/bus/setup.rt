@@ -1,7 +1,7 @@
 //! How a segment comes to have its contenders.
 ghost use Rattle.std.specs.Prelude.{◌≡◌};
-ghost use Rattle.arbitration.specs.Rules.{empty, highest_level};
-ghost use Rattle.arbitration.specs.View.{bus, Added};
+ghost use Rattle.arbitration.specs.Calls.{Added, refusal_in};
+ghost use Rattle.arbitration.specs.Rules.{empty, highest_level, add_refusal};
 
 use crate::bus::Segment;
 use crate::contenders::{Access, Contender, State};
@@ -25,7 +25,7 @@ fn highest_level(access: Access) -> u8
 impl Segment {
     /// A segment that nobody is on, with the inhibit down. The number names it in refusals.
     pub fn new(heap: Global, number: u8) -> Segment
-        ensures { bus result ≡ empty number }
+        ensures { result ≡ empty number }
     {
         Segment {
             number,
@@ -36,34 +36,33 @@ impl Segment {
 
     /// Adds an idle contender. Refused for a 17th contender, a level out of range for the access, a level in use.
     pub fn add_contender(&mut self, level: u8, access: Access) -> Result<(), SetupFault>
-        ensures { Added level access (bus self.old) result (bus self.new) }
+        ensures { Added level access self.old result self.new }
     {
-        if self.contenders.len() >= MOST {
-            return Err(self.setup_fault(Reason::TooManyContenders));
-        }
-        if level < 1 || level > highest_level(access) {
-            return Err(self.setup_fault(Reason::OutOfRange));
-        }
-        if let Some(_) = scans::place_of_level(&self.contenders, level) {
-            return Err(self.setup_fault(Reason::LevelInUse));
-        }
-        let newcomer = Contender {
+        let segment = self.number;
+        self.admit(level, access)
+            .map_err(|reason| Refusal { reason, segment })?;
+        let state = State::Idle;
+        self.contenders.push(Contender {
             level,
             access,
-            state: State::Idle,
-        };
-        match self.contenders.push(newcomer) {
-            Ok(()) => Ok(()),
-            Err(_) => Err(SetupFault::NoMemory),
-        }
+            state,
+        })?;
+        Ok(())
     }
 
-    fn setup_fault(&self, reason: Reason) -> SetupFault
-        ensures { result ≡ SetupFault.Refused (record { reason = reason; segment = self.now.number }) }
+    /// Whether a contender may be added, and why not.
+    fn admit(&self, level: u8, access: Access) -> Result<(), Reason>
+        ensures { refusal_in result ≡ add_refusal level access self.now }
     {
-        SetupFault::Refused(Refusal {
-            reason,
-            segment: self.number,
-        })
+        if self.contenders.len() >= MOST {
+            return Err(Reason::TooManyContenders);
+        }
+        if level < 1 || level > highest_level(access) {
+            return Err(Reason::OutOfRange);
+        }
+        if scans::has_level(&self.contenders, level) {
+            return Err(Reason::LevelInUse);
+        }
+        Ok(())
     }
 }

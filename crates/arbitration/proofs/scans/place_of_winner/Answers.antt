@@ -15,4 +15,4 @@ loop-i-preserved c =
     ]
 
 pub returns : goal.returns
-returns c = best_done _ _ _ (omega arith) c.loop-i.invariant
+returns c = best_done _ _ (subst (λ n. Best c.args.contenders.now n c.loop-i.best) (omega arith) c.loop-i.invariant)

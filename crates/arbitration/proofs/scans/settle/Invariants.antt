@@ -2,5 +2,5 @@ use Rattle.std.proofs.Common.{◌≡◌, ◌++◌, map, take, drop}
 use Rattle.arbitration.specs.Contenders.{wake}
 use Rattle.arbitration.proofs.scans.settle.Given as goal
 
-abbrev pub invariant-loop-i : goal.invariant-loop-i
-invariant-loop-i l = l.contenders ≡ map wake (take l.i l.initial.contenders) ++ drop l.i l.initial.contenders
+abbrev pub invariant-loop-c : goal.invariant-loop-c
+invariant-loop-c l = l.contenders ≡ map wake (take l.c-index l.initial.contenders) ++ drop l.c-index l.initial.contenders

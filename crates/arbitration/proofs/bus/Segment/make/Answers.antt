@@ -1,46 +1,59 @@
-use Rattle.std.proofs.Common.{◌≡◌, ℕ, Err, vec_items, sym, ap, ◌∙◌, subst}
+use Rattle.std.proofs.Common.{◌≡◌, ℕ, Some, Err, vec_items, position, sym, ap, ◌∙◌, subst, rules}
 use Rattle.std.specs.Vec.{with_item, with_items}
-use Rattle.arbitration.specs.Contenders.{move_verdict}
-use Rattle.arbitration.specs.Numbers.{at_segment, number_of}
+use Rattle.arbitration.specs.Contenders.{at_level, move_verdict}
+use Rattle.arbitration.specs.Numbers.{number_of, numbered}
 use Rattle.arbitration.specs.Rules.{move_answer, after_move}
-use Rattle.arbitration.specs.View.{bus}
-use Rattle.arbitration.proofs.Calls.{bus_of, settles, move_none, move_told, move_refused, move_made, move_stays}
+use Rattle.arbitration.proofs.Calls.{bus_of, settles, searched, move_none, move_told, move_refused, move_made, move_stays}
 use Rattle.arbitration.proofs.Keeping.{SoundBus, sound_move}
 use Rattle.arbitration.proofs.bus.Segment.make.Goals as goal
-use Rattle.arbitration.proofs.bus.Segment.make.Goals.{After-make, After-settle-self}
+use Rattle.arbitration.proofs.bus.Segment.make.Goals.{After-make, After-settle-self-inside}
 
-pub returns-in_default : goal.returns-in_default
-returns-in_default c =
-    let told = move_none c.args.self.now.number c.args.step c.args.level c.args.self.now.inhibit c.deref.ensures.value c.in_default.ensures in
-    record { answer = sym (ap (at_segment c.args.self.now.number) told); after = move_stays c.args.step c.args.level _ 8 told }
+pub returns-in_err-i : goal.returns-in_err-i
+returns-in_err-i c =
+    let none = searched (position (at_level c.args.level)) c.deref.ensures.value c.place_of_level.ensures c.ok_or.ensures.ok_part c.in_err-i.was in
+    let told = subst (λ b. move_answer c.args.step c.args.level b ≡ Err 8) c.self.view_is (move_none c.self.inside.number c.args.step c.args.level c.self.inside.inhibit (vec_items c.self.inside.contenders) none) in
+    let refused : numbered c.from_residual.result ≡ Err 8 = search rules in
+    record { answer = refused ∙ sym told; after = move_stays c.args.step c.args.level c.args.self.now 8 told }
 
--- what the contender answered is what the rules answer
-told : (c : After-make) → move_answer c.args.step c.args.level (bus c.args.self.now) ≡ move_verdict c.args.step c.args.self.now.inhibit c.index_mut.result.now
-told c = move_told c.args.self.now.number c.args.step c.args.level c.args.self.now.inhibit c.deref.ensures.value c.index_mut.ensures.value c.in-Some.ensures c.make.ensures.after
+-- ---- from the contender's own move on
+module _ (c : After-make) where
+  found : position (at_level c.args.level) (vec_items c.self.inside.contenders) ≡ Some c.in_ok-i.i
+  found = searched (position (at_level c.args.level)) c.deref.ensures.value c.place_of_level.ensures c.ok_or.ensures.ok_part c.in_ok-i.was
 
--- a contender that refused is as it was
-stays : (c : After-make) (k : ℕ) → Err k ≡ move_verdict c.args.step c.args.self.now.inhibit c.index_mut.result.now → bus_of c.args.self.now.number (vec_items (with_item c.args.self.now.contenders c.in-Some.i c.make.new.self)) c.args.self.now.inhibit ≡ after_move c.args.step c.args.level (bus c.args.self.now)
-stays c = move_refused c.args.self.now.number c.args.step c.args.level c.args.self.now.inhibit c.deref.ensures.value c.index_mut.ensures.value c.in-Some.ensures c.make.ensures.after
+  -- what the contender answered is what the rules answer
+  told : move_answer c.args.step c.args.level c.args.self.now ≡ move_verdict c.args.step c.self.inside.inhibit c.index_mut.result.now
+  told = ap (move_answer c.args.step c.args.level) (sym c.self.view_is) ∙ move_told c.self.inside.number c.args.step c.args.level c.self.inside.inhibit (vec_items c.self.inside.contenders) found c.index_mut.ensures.value c.make.ensures.after
+
+  -- a contender that refused is as it was
+  stays : (k : ℕ) → Err k ≡ move_verdict c.args.step c.self.inside.inhibit c.index_mut.result.now → bus_of c.self.inside.number (vec_items (with_item c.self.inside.contenders c.in_ok-i.i c.make.new.self)) c.self.inside.inhibit ≡ after_move c.args.step c.args.level (bus_of c.self.inside.number (vec_items c.self.inside.contenders) c.self.inside.inhibit)
+  stays = move_refused c.self.inside.number c.args.step c.args.level c.self.inside.inhibit (vec_items c.self.inside.contenders) found c.index_mut.ensures.value c.make.ensures.after
 
 pub invariant_of-self : goal.invariant_of-self
 invariant_of-self c =
-    let same = stays (goal.at.invariant_of-self c).After-make (number_of c.in-Err.reason) c.in-Err.ensures.answer in
-    record { sound = subst SoundBus (sym same) (sound_move c.args.step c.args.level _ c.args.self.now.sound) }
+    let refused : Err (number_of c.in_err-answer.field-0.0) ≡ move_verdict c.args.step c.self.inside.inhibit c.index_mut.result.now = search rules in
+    subst SoundBus (sym (stays (goal.at.invariant_of-self c).After-make _ refused)) (sound_move c.args.step c.args.level _ c.self.invariant)
 
-pub returns-in-Err : goal.returns-in-Err
-returns-in-Err c = record {
-  answer = sym (ap (at_segment c.args.self.now.number) (told (goal.at.returns-in-Err c).After-make ∙ sym c.in-Err.ensures.answer));
-  after = stays (goal.at.returns-in-Err c).After-make (number_of c.in-Err.reason) c.in-Err.ensures.answer;
-}
+pub returns-in_err-answer : goal.returns-in_err-answer
+returns-in_err-answer c =
+    let refused : Err (number_of c.in_err-answer.field-0.0) ≡ move_verdict c.args.step c.self.inside.inhibit c.index_mut.result.now = search rules in
+    let said : numbered c.from_residual-in_err-answer.result ≡ Err (number_of c.in_err-answer.field-0.0) = search rules in
+    record {
+      answer = said ∙ refused ∙ sym (told (goal.at.returns-in_err-answer c).After-make);
+      after = stays (goal.at.returns-in_err-answer c).After-make _ refused ∙ ap (after_move c.args.step c.args.level) c.self.view_is;
+    }
 
 -- a contender that moved, and settling after it
-made : (c : After-settle-self) → bus_of c.args.self.now.number (vec_items (with_items (with_item c.args.self.now.contenders c.in-Some.i c.make.new.self) c.settle-self.new.contenders)) c.settle-self.result ≡ after_move c.args.step c.args.level (bus c.args.self.now)
+made : (c : After-settle-self-inside) → bus_of c.self.inside.number (vec_items (with_items (with_item c.self.inside.contenders c.in_ok-i.i c.make.new.self) c.settle-self-inside.new.contenders)) c.settle-self-inside.result ≡ after_move c.args.step c.args.level (bus_of c.self.inside.number (vec_items c.self.inside.contenders) c.self.inside.inhibit)
 made c =
-    settles c.args.self.now.number (with_item c.args.self.now.contenders c.in-Some.i c.make.new.self) c.args.self.now.inhibit c.deref_mut.ensures.value c.deref_mut.ensures.len c.settle-self.ensures.answer c.settle-self.ensures.after
-    ∙ move_made c.args.self.now.number c.args.step c.args.level c.args.self.now.inhibit c.deref.ensures.value c.index_mut.ensures.value c.in-Some.ensures c.make.ensures.after c.in-Ok.answer c.in-Ok.ensures.answer
+    let found = searched (position (at_level c.args.level)) c.deref.ensures.value c.place_of_level.ensures c.ok_or.ensures.ok_part c.in_ok-i.was in
+    settles c.self.inside.number (with_item c.self.inside.contenders c.in_ok-i.i c.make.new.self) c.self.inside.inhibit c.deref_mut.ensures.value c.deref_mut.ensures.len c.settle-self-inside.ensures.answer c.settle-self-inside.ensures.after
+    ∙ move_made c.self.inside.number c.args.step c.args.level c.self.inside.inhibit (vec_items c.self.inside.contenders) found c.index_mut.ensures.value c.make.ensures.after c.in_ok-answer.answer (sym (ap numbered c.in_ok-answer.was) ∙ c.make.ensures.answer)
 
 pub invariant_of-self-2 : goal.invariant_of-self-2
-invariant_of-self-2 c = record { sound = subst SoundBus (sym (made (goal.at.invariant_of-self-2 c).After-settle-self)) (sound_move c.args.step c.args.level _ c.args.self.now.sound) }
+invariant_of-self-2 c = subst SoundBus (sym (made (goal.at.invariant_of-self-2 c).After-settle-self-inside)) (sound_move c.args.step c.args.level _ c.self.invariant)
 
 pub returns : goal.returns
-returns c = record { answer = sym (ap (at_segment c.args.self.now.number) (told (goal.at.returns c).After-make ∙ sym c.in-Ok.ensures.answer)); after = made (goal.at.returns c).After-settle-self }
+returns c = record {
+  answer = sym (ap numbered c.in_ok-answer.was) ∙ c.make.ensures.answer ∙ sym (told (goal.at.returns c).After-make);
+  after = made (goal.at.returns c).After-settle-self-inside ∙ ap (after_move c.args.step c.args.level) c.self.view_is;
+}

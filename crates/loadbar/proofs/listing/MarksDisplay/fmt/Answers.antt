@@ -1,0 +1,7 @@
+use Rattle.std.proofs.Common.{arith}
+use Rattle.std.proofs.lemmas.Grind.{common_steps}
+use Rattle.loadbar.proofs.Writing.{repeat_more}
+use Rattle.loadbar.proofs.listing.MarksDisplay.fmt.Goals as goal
+
+pub loop-preserved : goal.loop-preserved
+loop-preserved g c = grind (arith, common_steps, repeat_more)
