@@ -55,6 +55,7 @@ pub enum SetupFault {
     NoMemory(AllocError),
 }
 
+// These are by hand, since contracts name what `?` makes of a refusal and of want of memory.
 impl From<Refusal<Reason>> for SetupFault {
     ghost from_gives = { λ refusal fault. fault ≡ Refused refusal };
 

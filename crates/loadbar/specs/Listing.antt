@@ -77,6 +77,6 @@ call_line n a b = decimal n ++ (codes " " ++ (spoken a ++ (codes "  " ++ (load_t
 abbrev pub message_line : ℕ → List ℕ → List ℕ
 message_line n text = codes "line " ++ (decimal n ++ (codes ": " ++ (text ++ codes "\n")))
 
--- the message on a contender that is refused, by the number of the refusal
-abbrev pub refused_line : ℕ → ℕ → List ℕ
-refused_line n number = message_line n (codes "contender refused, " ++ spoken (Err number))
+-- that a contender is refused, with the number of the refusal
+abbrev pub refused : ℕ → List ℕ
+refused number = codes "contender refused, " ++ spoken (Err number)

@@ -8,7 +8,7 @@ use Rattle.loadbar.specs.declared.runs.Run.{Run}
 use Rattle.loadbar.specs.declared.scripts.Line.{Line}
 use Rattle.loadbar.specs.declared.scripts.Line.TheVariants.{Blank, Contender, Call}
 use Rattle.loadbar.specs.declared.scripts.Unreadable.{Unreadable}
-use Rattle.loadbar.specs.Listing.{complaint, call_line, message_line, refused_line}
+use Rattle.loadbar.specs.Listing.{complaint, call_line, message_line, refused}
 use Rattle.loadbar.specs.Scripts.{read}
 
 -- before the first line: the segment 1, with nobody on it
@@ -32,7 +32,7 @@ with_contender l a r = record { segment = unless_refused (add_refusal l a r.segm
 -- the message, if the contender is refused
 abbrev pub if_refused : Option ℕ → ℕ → List ℕ
 if_refused None line = []
-if_refused (Some n) line = refused_line line n
+if_refused (Some n) line = message_line line (refused n)
 
 -- what a line that adds a contender prints
 abbrev pub contender_text : ℕ → Access → Run → List ℕ

@@ -1,5 +1,5 @@
 -- What the words of a line say.
-use Rattle.std.specs.Prelude.{ℕ, if◌then◌else◌, List, Some, None, Ok, Err, codes, Option, Result, ◌==◌}
+use Rattle.std.specs.Prelude.{◌≡◌, ℕ, if◌then◌else◌, List, Some, None, Ok, Err, codes, Option, Result, ◌==◌}
 use Rattle.std.specs.List.{before_first}
 use Rattle.std.specs.Option.{option_and_then, ok_or}
 use Rattle.std.specs.Str.{bytes_eq}
@@ -48,6 +48,10 @@ abbrev pub contender : List ℕ → Result Line Unreadable
 contender t =
     if_last (first_word (rest (rest t)))
     (with_level (named (first_word t)) (option_and_then access_of (first_word (rest t))))
+
+-- what a maker of events may give at a level is the event e of that level
+abbrev pub Makes : (ℕ → Event → Type 0) → (ℕ → Event) → Type 0
+Makes gives e = (l : ℕ) (r : Event) → gives l r → r ≡ e l
 
 -- a call on a level, where the level can be read
 abbrev pub call : (ℕ → Event) → Result ℕ Unreadable → Result Line Unreadable

@@ -1,8 +1,8 @@
 //! The lines that the program prints.
-ghost use Rattle.std.specs.Prelude.{◌≡◌, IfOk, Some, string_bytes, encode_utf8};
+ghost use Rattle.std.specs.Prelude.{◌≡◌, IfOk, IfSome, Some, string_bytes, encode_utf8};
 ghost use Rattle.std.specs.List.{repeat};
 ghost use Rattle.arbitration.specs.Numbers.{number_of};
-ghost use Rattle.loadbar.specs.Listing.{plain, spoken, complaint, owner_text, levels_text, inhibit_text, bar_text, load_text, call_line, message_line, refused_line};
+ghost use Rattle.loadbar.specs.Listing.{plain, spoken, complaint, owner_text, levels_text, inhibit_text, bar_text, load_text, call_line, message_line, refused};
 
 use crate::scripts::Unreadable;
 use arbitration::{Answer, Contender, Reason, Refusal, Segment, State};
@@ -185,6 +185,21 @@ impl fmt::Display for LoadBar<'_> {
     }
 }
 
+/// A contender that is refused, with the number of the refusal.
+#[derive(Clone, Copy)]
+pub struct Refused(pub Refusal<Reason>);
+
+impl fmt::Display for Refused {
+    ghost output = { λ r. Some (refused (number_of r.0.reason)) };
+
+    fn fmt<W: fmt::Write>(&self, f: &mut fmt::Formatter<W>) -> fmt::Result {
+        let refused = Spoken(Err(self.0));
+        write!(f, "contender refused, {refused}")
+    }
+}
+
+// Which text is made is said in the library's words, `IfOk` and `string_bytes`: a word of our own would have to be learned.
+
 /// The line of a call: its number, its answer, and the load of the segment after it.
 pub fn call_line(
     heap: Global,
@@ -199,21 +214,13 @@ pub fn call_line(
     format!(in heap; "{number} {spoken}  {load}\n")
 }
 
-/// The message on a line that cannot be read.
-pub fn unreadable_line(heap: Global, line: usize, why: Unreadable) -> Result<String, AllocError>
-    ensures { IfOk result (λ s. string_bytes s ≡ message_line line (complaint why)) }
-{
-    format!(in heap; "line {line}: {why}\n")
-}
-
-/// The message on a contender that is refused, with the number of the refusal.
-pub fn refused_line(
+/// A message on a line of the script.
+pub fn message_line<M: fmt::Display>(
     heap: Global,
     line: usize,
-    refusal: Refusal<Reason>,
+    message: &M,
 ) -> Result<String, AllocError>
-    ensures { IfOk result (λ s. string_bytes s ≡ refused_line line (number_of refusal.reason)) }
+    ensures { IfSome (M.output message.now) (λ text. IfOk result (λ s. string_bytes s ≡ message_line line text)) }
 {
-    let refused = Spoken(Err(refusal));
-    format!(in heap; "line {line}: contender refused, {refused}\n")
+    format!(in heap; "line {line}: {message}\n")
 }

@@ -2,6 +2,7 @@
 ghost use Rattle.std.specs.Prelude.{◌≡◌, IfOk, string_bytes, OnOk};
 ghost use Rattle.loadbar.specs.Runs.{start, with_contender, contender_text, with_call, call_text, taken_in, printed, listing};
 
+use crate::listing::Refused;
 use crate::scripts::Line;
 use crate::{listing, scripts};
 use arbitration::{Access, Event, Segment, SetupFault};
@@ -38,7 +39,9 @@ impl Run {
     {
         match self.segment.add_contender(level, access) {
             Ok(()) => Ok(String::new(heap)),
-            Err(SetupFault::Refused(refusal)) => listing::refused_line(heap, self.lines, refusal),
+            Err(SetupFault::Refused(refusal)) => {
+                listing::message_line(heap, self.lines, &Refused(refusal))
+            }
             Err(SetupFault::NoMemory(error)) => Err(error),
         }
     }
@@ -63,7 +66,7 @@ impl Run {
             Ok(Line::Blank) => Ok(String::new(heap)),
             Ok(Line::Contender(level, access)) => self.add(heap, level, access),
             Ok(Line::Call(event)) => self.call(heap, event),
-            Err(why) => listing::unreadable_line(heap, self.lines, why),
+            Err(why) => listing::message_line(heap, self.lines, &why),
         }
     }
 }

@@ -1,8 +1,9 @@
 //! What a line of a script says.
-ghost use Rattle.std.specs.Prelude.{◌≡◌};
+ghost use Rattle.std.specs.Prelude.{◌≡◌, ℕ};
 ghost use Rattle.std.specs.Option.{ok_or, option_copied};
+ghost use Rattle.arbitration.specs.declared.replies.Event.{Event};
 ghost use Rattle.loadbar.specs.Words.{first_word};
-ghost use Rattle.loadbar.specs.Scripts.{access_of, named, if_last, sole_level, contender, completed, read};
+ghost use Rattle.loadbar.specs.Scripts.{access_of, named, Makes, if_last, sole_level, call, contender, completed, read};
 
 use crate::words;
 use crate::words::Words;
@@ -77,17 +78,24 @@ fn read_contender(mut words: Words) -> Result<Line, Unreadable>
     Ok(Line::Contender(level, access))
 }
 
+/// A call on the level that is the last word of a line.
+fn read_call<E: FnOnce(u8) -> Event>(words: Words, event: E) -> Result<Line, Unreadable>
+    requires { E.IsAlwaysCallable event }
+    ensures { (e : ℕ → Event) → Makes (E.post event) e → result ≡ call e (sole_level words.entry) }
+{
+    read_sole_level(words).map(event).map(Line::Call)
+}
+
 /// What the first word of a line says with those behind it.
-// Three arms have one shape: a table of the events' constructors would be no plainer.
 fn complete(verb: &[u8], words: Words) -> Result<Line, Unreadable>
     ensures { result ≡ completed verb.now words.entry }
 {
     match verb {
         b"contender" => read_contender(words),
-        b"wish" => read_sole_level(words).map(Event::Wish).map(Line::Call),
-        b"withdraw" => read_sole_level(words).map(Event::Withdraw).map(Line::Call),
+        b"wish" => read_call(words, Event::Wish),
+        b"withdraw" => read_call(words, Event::Withdraw),
         b"arbitrate" => words.end().map(|()| Line::Call(Event::Arbitrate)),
-        b"release" => read_sole_level(words).map(Event::Release).map(Line::Call),
+        b"release" => read_call(words, Event::Release),
         _ => Err(Unreadable::NoSuchCall),
     }
 }

@@ -34,6 +34,7 @@ impl Segment {
         }
     }
 
+    // Level and access are given as two: a record of them would be a contender without its state.
     /// Adds an idle contender. Refused for a 17th contender, a level out of range for the access, a level in use.
     pub fn add_contender(&mut self, level: u8, access: Access) -> Result<(), SetupFault>
         ensures { Added level access self.old result self.new }
