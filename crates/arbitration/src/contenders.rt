@@ -69,11 +69,7 @@ impl Contender {
                 self.state = State::Asks;
                 Ok(Answer::Asking)
             }
-            (State::Waits | State::Asks, Move::Withdraw, _) => {
-                self.state = State::Idle;
-                Ok(Answer::Done)
-            }
-            (State::Owns, Move::Release, _) => {
+            (State::Waits | State::Asks, Move::Withdraw, _) | (State::Owns, Move::Release, _) => {
                 self.state = State::Idle;
                 Ok(Answer::Done)
             }

@@ -8,8 +8,9 @@ ghost use Rattle.arbitration.specs.Scans.{place_of};
 
 use crate::contenders::{Contender, State};
 
-// These are functions of the slice, and the searches for a contender that is to be changed answer its place:
-// after `iter_mut().find(..)` has lent it, a proof knows nothing of the slice but its length.
+// These are functions of the slice and no methods, so that a clause speaks of a list of contenders and needs no segment.
+// A search for a contender that is to be changed answers its place: after `iter_mut().find(..)` has lent it,
+// a proof knows nothing of the slice but its length.
 
 /// The place of the contender of a level.
 pub(crate) fn place_of_level(contenders: &[Contender], level: u8) -> Option<usize>
@@ -50,6 +51,7 @@ pub(crate) fn count_in_state(contenders: &[Contender], state: State) -> usize
 }
 
 /// The place of the contender that wins an arbitration: of those that ask, the one with the highest level.
+// A loop over the records with their index (docs/DECISIONS.md). Of equal levels it takes the first, where `max_by_key` takes the last.
 pub(crate) fn place_of_winner(contenders: &[Contender]) -> Option<usize>
     ensures { result ≡ place_of (winner contenders.now) contenders.now }
 {

@@ -1,4 +1,4 @@
--- A text that is written again and again.
+-- A text that is written again and again. (The library has this lemma for itself alone.)
 use Rattle.std.proofs.Common.{◌≡◌, ℕ, zero, suc, ◌+◌, List, ◌++◌, sym, ap, ◌∙◌, append_assoc, append-nil, arith}
 use Rattle.std.specs.List.{repeat}
 

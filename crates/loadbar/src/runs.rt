@@ -20,6 +20,7 @@ struct Run {
     calls: usize,
 }
 
+// Which text is made is said as in `listing`.
 impl Run {
     /// Before the first line.
     fn new(heap: Global) -> Run

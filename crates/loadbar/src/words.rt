@@ -38,6 +38,7 @@ fn is_blank(byte: u8) -> bool
 }
 
 /// The first word of a text, and what follows it. The word is empty where the text is blank.
+// No Option: what follows is wanted where there is no word, too. `Words` makes no word of an empty one.
 fn split_word(text: &[u8]) -> (&[u8], &[u8])
     ensures word { result.0.now ≡ word text.now }
     ensures rest { result.1.now ≡ rest text.now }

@@ -4,6 +4,7 @@
 // `ms` is a number and no enum, since a call with a number that is no mode is made, and refused.
 // `read` and `word` stand side by side, since a step of a hall gives both, a word for a read too.
 // A call has the segment and the level by name, as they are given: a struct of the two would only be taken apart again.
+// (A `Grant` is a report and names no master.)
 #[derive(Clone, Copy, PartialEq, Eq, Debug)]
 pub enum Call {
     /// A master comes to ask for its segment, or to wait.

@@ -47,7 +47,7 @@ pub struct Slot {
 }
 
 /// A module that a master is linked to, by the index of its slot, and the space.
-// An index and no reference: a crate knows its modules by number only, and what they hold is the halls' own.
+// An index and no reference: a crate knows its modules by index only, and what they hold is the halls' own.
 #[derive(Clone, Copy, PartialEq, Eq, Debug)]
 pub struct Link {
     pub slot: usize,

@@ -60,6 +60,7 @@ impl Segment {
     }
 
     /// The contender of a level makes a move.
+    // By its place, as `scans` says, and with the move as a value, as `Move` says.
     fn make(&mut self, step: Move, level: u8) -> Result<Answer, Reason>
         ensures answer { numbered result ≡ move_answer step level self.old }
         ensures after { self.new ≡ after_move step level self.old }
@@ -71,6 +72,7 @@ impl Segment {
     }
 
     /// The winner comes to own the segment.
+    // By its place, as `scans` says.
     fn grant(&mut self) -> Result<Answer, Reason>
         ensures answer { numbered result ≡ answer Arbitrate self.old }
         ensures after { self.new ≡ after Arbitrate self.old }

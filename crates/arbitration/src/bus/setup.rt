@@ -34,7 +34,7 @@ impl Segment {
         }
     }
 
-    // Level and access are given as two: a record of them would be a contender without its state.
+    // Level and access are given as two, here and by whoever calls: a record of them would be taken apart at once.
     /// Adds an idle contender. Refused for a 17th contender, a level out of range for the access, a level in use.
     pub fn add_contender(&mut self, level: u8, access: Access) -> Result<(), SetupFault>
         ensures { Added level access self.old result self.new }
