@@ -113,6 +113,7 @@ impl fmt::Display for Levels<'_> {
         if !self.contenders.iter().any(|c| c.is(self.state)) {
             return write!(f, " -");
         }
+        // Tried with `filter`: over it the check refuses what the kit itself defines for the loop.
         for contender in self.contenders {
             if !contender.is(self.state) {
                 continue;
