@@ -49,7 +49,8 @@ contender t =
     if_last (first_word (rest (rest t)))
     (with_level (named (first_word t)) (option_and_then access_of (first_word (rest t))))
 
--- what a maker of events may give at a level is the event e of that level
+-- a function from levels to events makes e: whatever a call of it on a level may answer is the event e of that level;
+-- gives l r: a call on the level l may answer r
 abbrev pub Makes : (ℕ → Event → Type 0) → (ℕ → Event) → Type 0
 Makes gives e = (l : ℕ) (r : Event) → gives l r → r ≡ e l
 

@@ -2,7 +2,8 @@
 use Rattle.std.specs.Prelude.{◌≡◌, ℕ, ◌+◌, ◌-◌, ◌*◌, Bool, if◌then◌else◌, not, ◌&&◌, ◌||◌, List, [], ◌∷◌, drop, Some, None, Option, ◌==◌, nat_le}
 use Rattle.std.specs.List.{before_first, position_or_len}
 
--- what the calls of a test may give at a byte is what p says of it
+-- a test of bytes computes p: whatever a call of it on a byte may answer is what p says of that byte;
+-- gives b r: a call on the byte b may answer r
 abbrev pub Computes : (ℕ → Bool → Type 0) → (ℕ → Bool) → Type 0
 Computes gives p = (b : ℕ) (r : Bool) → gives b r → r ≡ p b
 
