@@ -1,8 +1,7 @@
 -- The place that a search answers, what is found or amended there, and how many are counted.
-use Rattle.std.proofs.Common.{◌≡◌, ℕ, ◌+◌, ◌<◌, Bool, true, false, cond, not, ◌||◌, nat_lt, List, [], ◌∷◌, length, get_or, set, Some, None, is_some, find, position, count_by, slice_get, ⊎_elim, sym, refl, ap, ◌∙◌, subst, one-add, arith}
+use Rattle.std.proofs.Common.{◌≡◌, ℕ, ◌+◌, ◌<◌, ◌%◌, ◌^◌, Bool, true, false, cond, not, ◌||◌, nat_lt, List, [], ◌∷◌, length, get_or, set, Some, None, is_some, find, position, fold, slice_get, ⊎_elim, sym, refl, ap, ◌∙◌, subst, one-add, arith}
 use Rattle.std.specs.List.{list_any, position_or_len}
 use Rattle.std.proofs.lemmas.List.Folds.{find_at}
-use Rattle.std.proofs.lemmas.List.Recursion.{is_count_by}
 use Rattle.std.proofs.lemmas.Option.{slice_get-get_or, slice_get_past}
 use Rattle.std.proofs.lemmas.List.{get_or_default}
 use Rattle.std.proofs.lemmas.Bool.{cond-true, cases_eq, lt-ltb, ltb-true, ltb-false}
@@ -64,5 +63,15 @@ amended_first p f (x ∷ xs) d =
 pub amended_placed : {A : Type 0} (p : A → Bool) (f : A → A) (xs : List A) (i : ℕ) (d : A) → position p xs ≡ Some i → amended p f xs ≡ set xs i (f (get_or xs i d))
 amended_placed p f xs i d e = subst (λ n. amended p f xs ≡ set xs n (f (get_or xs n d))) (placed p xs i e).0 (amended_first p f xs d)
 
-pub count_is : {A : Type 0} (p : A → Bool) (xs : List A) → count p xs ≡ count_by p xs
-count_is p = is_count_by (count p) p refl (λ x xs. elim (p x) as (λ t. cond t 1 0 + count p xs ≡ cond t (1 + count p xs) (count p xs)) [ true ↦ refl | false ↦ omega arith ])
+-- how many pass is what a fold that adds one for each comes to, on a list too short for the sum to wrap
+pub counted : {A : Type 0} (p : A → Bool) (n : ℕ) (xs : List A) → n + length xs < 2 ^ 64 → fold (λ m x. (m + cond (p x) 1 0) % 2 ^ 64) n xs ≡ n + count p xs
+counted p n [] short = omega arith
+counted p n (x ∷ xs) short =
+    elim (p x) as (λ t. fold (λ m x. (m + cond (p x) 1 0) % 2 ^ 64) ((n + cond t 1 0) % 2 ^ 64) xs ≡ n + (cond t 1 0 + count p xs)) [
+      | true ↦
+          let next : (n + 1) % 2 ^ 64 ≡ n + 1 = omega (arith, short) in
+          rw next (omega (arith, counted p (n + 1) xs (omega (arith, short))))
+      | false ↦
+          let next : (n + 0) % 2 ^ 64 ≡ n = omega (arith, short) in
+          rw next (omega (arith, counted p n xs (omega (arith, short))))
+    ]

@@ -13,6 +13,7 @@ use Rattle.arbitration.specs.Numbers.{number_of, reported, at_segment}
 use Rattle.arbitration.specs.Contenders.{asks, waits}
 use Rattle.arbitration.specs.Lists.{count}
 use Rattle.arbitration.specs.Rules.{Bus, add_refusal, added, answer, after}
+use Rattle.arbitration.specs.Sound.{Sound}
 
 -- the event e comes to the segment b: it is answered r, and leaves the segment b'
 pub record Happens (e : Event) (b : Bus) (r : Result Answer (Refusal Reason)) (b' : Bus) : Type 0 where
@@ -20,6 +21,9 @@ pub record Happens (e : Event) (b : Bus) (r : Result Answer (Refusal Reason)) (b
   pub answered : reported r ≡ at_segment b.number (answer e b)
   -- so is the segment after it; a refused event changes nothing
   pub leaves : b' ≡ after e b
+  -- what always holds of a segment held of it before, and holds of it after
+  pub was_sound : Sound b.contenders b.inhibit
+  pub stays_sound : Sound b'.contenders b'.inhibit
 
 -- the number of the refusal in a result, if it is one
 abbrev pub refusal_in : Result (Unit {0}) Reason → Option ℕ

@@ -1,6 +1,25 @@
-//! Tests of the crate `arbitration` through its public calls.
+//! Tests of the crate `arbitration` through its public calls, and what a caller's proof knows of a segment.
 
 #![tactic(auto)]
+
+ghost use Rattle.arbitration.specs.Sound.{Sound};
+
+use arbitration::{Event, Segment};
+
+/// Whoever asks a segment anything knows that it is sound.
+pub fn asks_a_sound_segment(segment: &Segment) -> usize
+    ensures { Sound segment.now.contenders segment.now.inhibit }
+{
+    segment.load().asking
+}
+
+/// Whoever calls a segment knows that it was sound, and that it still is.
+pub fn calls_a_sound_segment(segment: &mut Segment, event: Event) -> bool
+    ensures was_sound { Sound segment.old.contenders segment.old.inhibit }
+    ensures stays_sound { Sound segment.new.contenders segment.new.inhibit }
+{
+    segment.apply(event).is_ok()
+}
 
 #[cfg(test)]
 mod tests {

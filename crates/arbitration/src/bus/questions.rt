@@ -20,7 +20,8 @@ pub struct Load {
 impl Segment {
     /// The number that names the segment in refusals.
     pub fn number(&self) -> u8
-        ensures { result ≡ self.now.number }
+        ensures shown { result ≡ self.now.number }
+        ensures sound { Sound self.now.contenders self.now.inhibit }
     {
         self.number
     }
@@ -35,14 +36,16 @@ impl Segment {
 
     /// Whether the arbitration request inhibit is up.
     pub fn inhibit(&self) -> bool
-        ensures { result ≡ self.now.inhibit }
+        ensures shown { result ≡ self.now.inhibit }
+        ensures sound { Sound self.now.contenders self.now.inhibit }
     {
         self.inhibit
     }
 
     /// The level that owns the segment.
     pub fn owner(&self) -> Option<u8>
-        ensures { result ≡ owner_of self.now }
+        ensures shown { result ≡ owner_of self.now }
+        ensures sound { Sound self.now.contenders self.now.inhibit }
     {
         self.contenders
             .iter()
@@ -52,7 +55,8 @@ impl Segment {
 
     /// What the contender of a level is doing. Refused where there is no such contender.
     pub fn state(&self, level: u8) -> Result<State, Refusal<Reason>>
-        ensures { reported result ≡ at_segment self.now.number (state_of level self.now) }
+        ensures shown { reported result ≡ at_segment self.now.number (state_of level self.now) }
+        ensures sound { Sound self.now.contenders self.now.inhibit }
     {
         let reason = Reason::NoSuchContender;
         let segment = self.number;
@@ -61,7 +65,8 @@ impl Segment {
 
     /// How many ask and how many wait.
     pub fn load(&self) -> Load
-        ensures { result ≡ load_of self.now }
+        ensures shown { result ≡ load_of self.now }
+        ensures sound { Sound self.now.contenders self.now.inhibit }
     {
         Load {
             asking: scans::count_in_state(&self.contenders, State::Asks),

@@ -2,6 +2,7 @@
 ghost use Rattle.std.specs.Prelude.{◌≡◌};
 ghost use Rattle.arbitration.specs.Calls.{Added, refusal_in};
 ghost use Rattle.arbitration.specs.Rules.{empty, highest_level, add_refusal};
+ghost use Rattle.arbitration.specs.Sound.{Sound};
 
 use crate::bus::Segment;
 use crate::contenders::{Access, Contender, State};
@@ -37,7 +38,9 @@ impl Segment {
     // Level and access are given as two, here and by whoever calls: a record of them would be taken apart at once.
     /// Adds an idle contender. Refused for a 17th contender, a level out of range for the access, a level in use.
     pub fn add_contender(&mut self, level: u8, access: Access) -> Result<(), SetupFault>
-        ensures { Added level access self.old result self.new }
+        ensures added { Added level access self.old result self.new }
+        ensures was_sound { Sound self.old.contenders self.old.inhibit }
+        ensures stays_sound { Sound self.new.contenders self.new.inhibit }
     {
         let segment = self.number;
         self.admit(level, access)
