@@ -1,6 +1,5 @@
 -- What the words of a line say.
-use Rattle.std.specs.Prelude.{◌≡◌, ℕ, if◌then◌else◌, List, Some, None, Ok, Err, codes, Option, Result, ◌==◌}
-use Rattle.std.specs.List.{before_first}
+use Rattle.std.specs.Prelude.{◌≡◌, ℕ, if◌then◌else◌, List, Some, None, Ok, Err, codes, Option, Result}
 use Rattle.std.specs.Option.{option_and_then, ok_or}
 use Rattle.std.specs.Str.{bytes_eq}
 use Rattle.arbitration.specs.declared.contenders.Access.{Access}
@@ -11,7 +10,7 @@ use Rattle.loadbar.specs.declared.scripts.Line.{Line}
 use Rattle.loadbar.specs.declared.scripts.Line.TheVariants as line
 use Rattle.loadbar.specs.declared.scripts.Unreadable.{Unreadable}
 use Rattle.loadbar.specs.declared.scripts.Unreadable.TheVariants.{NoSuchCall, NoLevel, NoAccess, TooManyWords}
-use Rattle.loadbar.specs.Words.{first_word, rest, number}
+use Rattle.loadbar.specs.Words.{uncommented, first_word, rest, number}
 
 -- the access that a word names
 abbrev pub access_of : List ℕ → Option Access
@@ -78,6 +77,6 @@ by_word (Some w) t = completed w t
 abbrev pub understood : List ℕ → Result Line Unreadable
 understood t = by_word (first_word t) (rest t)
 
--- what a line says: its text goes up to the first `#`
+-- what a line says: its words go up to its comment
 abbrev pub read : List ℕ → Result Line Unreadable
-read l = understood (before_first (λ b. b == 35) l)
+read l = understood (uncommented l)

@@ -11,6 +11,10 @@ Computes gives p = (b : ℕ) (r : Bool) → gives b r → r ≡ p b
 abbrev pub from : (ℕ → Bool) → List ℕ → List ℕ
 from p t = drop (position_or_len p t) t
 
+-- a line up to its comment, which begins with the first `#`
+abbrev pub uncommented : List ℕ → List ℕ
+uncommented l = before_first (λ b. b == 35) l
+
 -- a space, a tab or a carriage return
 abbrev pub blank : ℕ → Bool
 blank b = b == 32 || (b == 9 || b == 13)

@@ -104,8 +104,7 @@ fn complete(verb: &[u8], words: Words) -> Result<Line, Unreadable>
 pub fn read_line(line: &[u8]) -> Result<Line, Unreadable>
     ensures { result ≡ read line.now }
 {
-    let (text, _) = words::cut_before(line, |byte| byte == b'#');
-    let mut words = Words::new(text);
+    let mut words = Words::new(words::uncommented(line));
     match words.next() {
         None => Ok(Line::Blank),
         Some(verb) => complete(verb, words),

@@ -3,7 +3,7 @@ ghost use Rattle.std.specs.Prelude.{◌≡◌, ◌≤◌, ℕ, Bool, length};
 ghost use Rattle.std.specs.List.{before_first, position_or_len};
 ghost use Rattle.std.specs.Iterator.{at_most};
 ghost use Rattle.std.specs.Option.{option_copied};
-ghost use Rattle.loadbar.specs.Words.{Computes, from, blank, word, first_word, rest, shifted, number};
+ghost use Rattle.loadbar.specs.Words.{Computes, from, uncommented, blank, word, first_word, rest, shifted, number};
 
 use std::marker::Model;
 
@@ -20,7 +20,7 @@ fn length_before<P: Fn(u8) -> bool>(text: &[u8], stops: P) -> usize
 }
 
 /// A text up to its first byte that passes a test, and the text from that byte on.
-pub fn cut_before<P: Fn(u8) -> bool>(text: &[u8], stops: P) -> (&[u8], &[u8])
+fn cut_before<P: Fn(u8) -> bool>(text: &[u8], stops: P) -> (&[u8], &[u8])
     requires { P.IsAlwaysCallable stops }
     ensures before { (p : ℕ → Bool) → Computes (P.post stops) p
         → result.0.now ≡ before_first p text.now }
@@ -28,6 +28,14 @@ pub fn cut_before<P: Fn(u8) -> bool>(text: &[u8], stops: P) -> (&[u8], &[u8])
         → result.1.now ≡ from p text.now }
 {
     text.split_at(length_before(text, stops))
+}
+
+/// A line up to its comment, which begins with the first `#`.
+pub fn uncommented(line: &[u8]) -> &[u8]
+    ensures { result.now ≡ uncommented line.now }
+{
+    let (text, _) = cut_before(line, |byte| byte == b'#');
+    text
 }
 
 /// Whether a byte parts words: a space, a tab or a carriage return.
