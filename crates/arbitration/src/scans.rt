@@ -3,7 +3,7 @@ ghost use Rattle.std.specs.Prelude.{◌≡◌, not, ◌&&◌, map, find, option_
 ghost use Rattle.std.specs.List.{list_any};
 ghost use Rattle.arbitration.specs.Contenders.{in_state, at_level, asks, wake};
 ghost use Rattle.arbitration.specs.Lists.{count};
-ghost use Rattle.arbitration.specs.Rules.{winner};
+ghost use Rattle.arbitration.specs.Rules.{winner, level_of};
 ghost use Rattle.arbitration.specs.Scans.{place_of};
 
 use crate::contenders::{Contender, State};
@@ -34,6 +34,19 @@ pub(crate) fn state_of_level(contenders: &[Contender], level: u8) -> Option<Stat
         .iter()
         .find(|c| c.level == level)
         .map(|c| c.state)
+}
+
+/// The level of the first contender in a state.
+// A loop, and no `find`, which takes half as much time again.
+pub(crate) fn level_in_state(contenders: &[Contender], state: State) -> Option<u8>
+    ensures { result ≡ level_of (find (in_state state) contenders.now) }
+{
+    for c in contenders {
+        if c.is(state) {
+            return Some(c.level);
+        }
+    }
+    None
 }
 
 /// Whether a contender is in a state.

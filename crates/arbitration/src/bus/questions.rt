@@ -47,10 +47,7 @@ impl Segment {
         ensures shown { result ≡ owner_of self.now }
         ensures sound { Sound self.now.contenders self.now.inhibit }
     {
-        self.contenders
-            .iter()
-            .find(|c| c.is(State::Owns))
-            .map(|c| c.level)
+        scans::level_in_state(&self.contenders, State::Owns)
     }
 
     /// What the contender of a level is doing. Refused where there is no such contender.
