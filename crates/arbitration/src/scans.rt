@@ -37,7 +37,7 @@ pub(crate) fn state_of_level(contenders: &[Contender], level: u8) -> Option<Stat
 }
 
 /// The level of the first contender in a state.
-// A loop, and no `find`, which takes half as much time again.
+// A loop, and no `find`, which takes a fifth more instructions.
 pub(crate) fn level_in_state(contenders: &[Contender], state: State) -> Option<u8>
     ensures { result ≡ level_of (find (in_state state) contenders.now) }
 {
@@ -57,7 +57,7 @@ pub(crate) fn any_in_state(contenders: &[Contender], state: State) -> bool
 }
 
 /// How many contenders are in a state.
-// No `filter` with `count`, which takes twice the time. Nothing wraps: the sum is at most the length.
+// No `filter` with `count`, by which `load` took a third more instructions. Nothing wraps: the sum is at most the length.
 pub(crate) fn count_in_state(contenders: &[Contender], state: State) -> usize
     ensures { result ≡ count (in_state state) contenders.now }
 {
